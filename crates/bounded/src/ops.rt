@@ -1,7 +1,7 @@
 ghost use mathlib.Core.Path.{_≡_};
 ghost use mathlib.Core.List.{[], _∷_, _++_};
 ghost use Prim.Native.Nat.{_≤_, _<_};
-ghost use lib.ListN.{length};
+ghost use lib.ListN.{length, take};
 ghost use Rattle.std.specs.Results.{Cases};
 ghost use Rattle.bounded.specs.Items.{items};
 use crate::ArrayVec;
@@ -37,6 +37,7 @@ impl<T: Copy, const N: usize> ArrayVec<T, N> {
     /// Adds `x` behind the last item; where all N places are taken, hands it back and changes nothing.
     pub fn push(&mut self, x: T) -> Result<(), T>
         ensures cases { λ r. ⌜ Cases r (λ _. (length (items (now (self .entry))) < N) × (items (now (self .exit)) ≡ items (now (self .entry)) ++ x ∷ [])) (λ y. (length (items (now (self .entry))) ≡ N) × (y ≡ x) × (now (self .exit) ≡ now (self .entry))) ⌝ }
+        ensures items { λ _. ⌜ items (now (self .exit)) ≡ take N (items (now (self .entry)) ++ x ∷ []) ⌝ }
         ensures grows { λ _. ⌜ length (items (now (self .entry))) ≤ length (items (now (self .exit))) ⌝ }
     {
         if self.len < N {
