@@ -14,7 +14,7 @@ use bounded::ArrayVec;
 impl Master {
     /// A master with this hop and no streams; none where the hop is out of its range.
     pub fn new(hop: u16) -> Option<Master>
-        ensures { λ r. ⌜ Cases r (Hop-in-range hop → ⊥) (λ m. station-of m ≡ bare hop) ⌝ }
+        ensures { λ r. ⌜ Cases r (Hop-in-range hop → ⊥) (λ m. Hop-in-range hop × (station-of m ≡ bare hop)) ⌝ }
     {
         if hop == 0 || hop > 10_000 {
             return None;
@@ -49,6 +49,7 @@ impl Master {
     /// The high streams.
     pub fn highs(&self) -> &[HighStream]
         ensures value { λ r. ⌜ map stream-of (now r) ≡ station-of (now (self .entry)) .highs ⌝ }
+        ensures len { λ r. ⌜ length (now r) ≡ length (station-of (now (self .entry)) .highs) ⌝ }
         ensures bound { λ r. ⌜ length (now r) ≤ 8 ⌝ }
     {
         self.highs.as_slice()
@@ -57,6 +58,7 @@ impl Master {
     /// The low streams.
     pub fn lows(&self) -> &[LowStream]
         ensures value { λ r. ⌜ map cycle-of (now r) ≡ station-of (now (self .entry)) .lows ⌝ }
+        ensures len { λ r. ⌜ length (now r) ≡ length (station-of (now (self .entry)) .lows) ⌝ }
         ensures bound { λ r. ⌜ length (now r) ≤ 4 ⌝ }
     {
         self.lows.as_slice()

@@ -29,7 +29,7 @@ impl Plan {
     /// A plan of these masters, in token order, at this target; none where the target is out of its
     /// range or there is no master.
     pub fn of(target: u32, masters: ArrayVec<Master, MASTERS>) -> Option<Plan>
-        ensures { λ r. ⌜ Cases r ((target ≤ 16777215) × (1 ≤ length (items masters)) → ⊥) (λ p. net p ≡ planned target (map station-of (items masters))) ⌝ }
+        ensures { λ r. ⌜ Cases r ((target ≤ 16777215) × (1 ≤ length (items masters)) → ⊥) (λ p. (target ≤ 16777215) × (1 ≤ length (items masters)) × (net p ≡ planned target (map station-of (items masters)))) ⌝ }
     {
         if target > GREATEST_TARGET || masters.len() == 0 {
             return None;
@@ -47,6 +47,7 @@ impl Plan {
     /// The masters, in token order.
     pub fn masters(&self) -> &[Master]
         ensures value { λ r. ⌜ map station-of (now r) ≡ net (now (self .entry)) .masters ⌝ }
+        ensures len { λ r. ⌜ length (now r) ≡ length (net (now (self .entry)) .masters) ⌝ }
         ensures bound { λ r. ⌜ (1 ≤ length (now r)) × (length (now r) ≤ 8) ⌝ }
     {
         self.masters.as_slice()

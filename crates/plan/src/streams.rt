@@ -8,7 +8,7 @@ use crate::LowStream;
 impl HighStream {
     /// A high stream with these times; none where one is out of its range.
     pub fn new(cycle: u16, deadline: u32, generation: u16, delivery: u16) -> Option<HighStream>
-        ensures { λ r. ⌜ Cases r (Stream-in-range (times cycle deadline generation delivery) → ⊥) (λ s. stream-of s ≡ times cycle deadline generation delivery) ⌝ }
+        ensures { λ r. ⌜ Cases r (Stream-in-range (times cycle deadline generation delivery) → ⊥) (λ s. Stream-in-range (times cycle deadline generation delivery) × (stream-of s ≡ times cycle deadline generation delivery)) ⌝ }
     {
         if cycle == 0 || cycle > 60_000 || deadline == 0 || generation > 60_000 || delivery > 60_000 {
             return None;
@@ -53,7 +53,7 @@ impl HighStream {
 impl LowStream {
     /// A low stream with this longest cycle; none where that is out of its range.
     pub fn new(cycle: u16) -> Option<LowStream>
-        ensures { λ r. ⌜ Cases r (Cycle-in-range cycle → ⊥) (λ s. cycle-of s ≡ cycle) ⌝ }
+        ensures { λ r. ⌜ Cases r (Cycle-in-range cycle → ⊥) (λ s. Cycle-in-range cycle × (cycle-of s ≡ cycle)) ⌝ }
     {
         if cycle == 0 || cycle > 60_000 {
             return None;

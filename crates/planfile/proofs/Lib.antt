@@ -1,0 +1,9 @@
+pub mod Numbers
+pub mod Growth
+pub mod Framing
+pub mod Steps
+pub mod Goods
+pub mod Chains
+pub mod Stops
+pub mod Once
+pub mod Going

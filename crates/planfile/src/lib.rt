@@ -1,0 +1,10 @@
+// The plan file: a version byte, then records, all numbers with the higher byte first.
+mod bytes;
+mod draft;
+mod reading;
+mod records;
+
+pub use reading::read;
+
+/// The first byte of a plan file.
+pub const VERSION: u8 = 1;
