@@ -7,3 +7,5 @@ pub mod Chains
 pub mod Stops
 pub mod Once
 pub mod Going
+pub mod Laid
+pub mod Rows

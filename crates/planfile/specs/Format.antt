@@ -46,3 +46,13 @@ file-of rs = 1 ∷ joined record-bytes rs
 
 abbrev pub encoded : Net → List ℕ
 encoded n = file-of (records n)
+
+-- the bytes of high streams, of low streams, and of a master with its streams
+abbrev pub highs-bytes : List Stream → List ℕ
+highs-bytes ss = joined record-bytes (map high-record ss)
+
+abbrev pub lows-bytes : List ℕ → List ℕ
+lows-bytes cs = joined record-bytes (map Low cs)
+
+abbrev pub station-bytes : Station → List ℕ
+station-bytes m = joined record-bytes (station-records m)
