@@ -24,8 +24,24 @@ behind bs cs buffer now after n l e w =
     (λ i. front i ++ (wrote i ++ past i)) ∙ ap (λ xs. bs ++ xs) (append-nil (cs ++ drop (length bs + length cs) buffer))
     ∙ sym (append-assoc bs cs (drop (length bs + length cs) buffer)) ∙ ap (λ m. (bs ++ cs) ++ drop m buffer) (sym long)
 
--- there is room for cs behind bs
-pub room-behind : (bs cs buffer now : List ℕ) (n : ℕ) → n ≡ length bs → now ≡ laid bs buffer → length (bs ++ cs) ≤ length buffer → length cs ≤ length (take (length now - n) (drop n now))
-room-behind bs cs buffer now n l e room =
-    let part = rest-of bs buffer now n l e in
-    omega (arith, ap length part, length-drop (length bs) buffer, length-append bs cs)
+-- a buffer that has room for all of bs and cs, where bs is written first
+module _ (all bs cs buffer : List ℕ) (is : all ≡ bs ++ cs) (room : length all ≤ length buffer) where
+  long : length all ≡ length bs + length cs
+  long = ap length is ∙ length-append bs cs
+
+  pub room-first : length bs ≤ length buffer
+  room-first = omega (arith, long, room)
+
+  module _ (now : List ℕ) (n : ℕ) (l : n ≡ length bs) (e : now ≡ laid bs buffer) where
+    pub room-second : length cs ≤ length (take (length now - n) (drop n now))
+    room-second = omega (arith, long, room, ap length (rest-of bs buffer now n l e), length-drop (length bs) buffer)
+
+    module _ (after : List ℕ) (m : ℕ) (k : m ≡ length cs) (w : after ≡ laid cs (take (length now - n) (drop n now))) where
+      pub sum-fits : n + m ≤ length buffer
+      sum-fits = omega (arith, long, room, l, k)
+
+      pub sum-both : n + m ≡ length all
+      sum-both = omega (arith, long, l, k)
+
+      pub laid-both : putMid n (length now - n) now after ≡ laid all buffer
+      laid-both = behind bs cs buffer now after n l e w ∙ ap (λ xs. laid xs buffer) (sym is)

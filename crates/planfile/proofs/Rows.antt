@@ -6,12 +6,12 @@ use native.Mathlib.Omega.{arith}
 use lib.ListN.{length, getD, take, drop}
 use borrow.Rule.Slice.PartMut.{putMid}
 use Rattle.std.specs.shelf.Lists.{joined}
-use Rattle.std.proofs.shelf.Lists.{append-assoc, append-nil, length-append, length-drop, take-all, take-append-drop, take-more}
+use Rattle.std.proofs.shelf.Lists.{append-assoc, append-nil, length-append, length-drop, length-take, take-all, take-append-drop, take-more}
 use Rattle.bounded.proofs.Steps.{at-item}
 use Rattle.plan.specs.Net.{Stream, Station, Net}
 use Rattle.planfile.specs.declared.records.Record.{Record}
 use Rattle.planfile.specs.declared.records.Record.the-variants.{Ring, Master, Low}
-use Rattle.planfile.specs.Format.{encoded, high-record, highs-bytes, lows-bytes, record-bytes, station-bytes, station-records}
+use Rattle.planfile.specs.Format.{encoded, high-record, highs-bytes, lows-bytes, record-bytes, station-bytes, station-records, streams-bytes}
 use Rattle.planfile.specs.Laying.{laid}
 use Rattle.planfile.proofs.Laid.{behind, rest-of}
 
@@ -19,7 +19,7 @@ joined-append : {X A : Type 0} (f : X → List A) (xs ys : List X) → joined f 
 joined-append f [] ys = refl
 joined-append f (x ∷ xs) ys = ap (λ bs. f x ++ bs) (joined-append f xs ys) ∙ sym (append-assoc (f x) (joined f xs) (joined f ys))
 
-pub joined-map : {X Y A : Type 0} (f : Y → List A) (g : X → Y) (xs : List X) → joined f (map g xs) ≡ joined (λ x. f (g x)) xs
+joined-map : {X Y A : Type 0} (f : Y → List A) (g : X → Y) (xs : List X) → joined f (map g xs) ≡ joined (λ x. f (g x)) xs
 joined-map f g [] = refl
 joined-map f g (x ∷ xs) = ap (λ bs. f (g x) ++ bs) (joined-map f g xs)
 
@@ -27,8 +27,18 @@ joined-joined : {X Y A : Type 0} (f : Y → List A) (g : X → List Y) (xs : Lis
 joined-joined f g [] = refl
 joined-joined f g (x ∷ xs) = joined-append f (g x) (joined g xs) ∙ ap (λ bs. joined f (g x) ++ bs) (joined-joined f g xs)
 
+-- rows of what xs show as ys
+pub joined-view : {X Y A : Type 0} (f : Y → List A) (g : X → Y) (xs : List X) (ys : List Y) → map g xs ≡ ys → joined (λ x. f (g x)) xs ≡ joined f ys
+joined-view f g xs ys e = sym (joined-map f g xs) ∙ ap (joined f) e
+
+pub highs-view : {X : Type 0} (g : X → Stream) (xs : List X) (ss : List Stream) → map g xs ≡ ss → joined (λ x. record-bytes (high-record (g x))) xs ≡ highs-bytes ss
+highs-view g xs ss e = joined-view (λ s. record-bytes (high-record s)) g xs ss e ∙ sym (joined-map record-bytes high-record ss)
+
+pub lows-view : {X : Type 0} (g : X → ℕ) (xs : List X) (cs : List ℕ) → map g xs ≡ cs → joined (λ x. record-bytes (Low (g x))) xs ≡ lows-bytes cs
+lows-view g xs cs e = joined-view (λ c. record-bytes (Low c)) g xs cs e ∙ sym (joined-map record-bytes Low cs)
+
 -- a master is its own record, then its high streams, then its low ones
-pub station-parts : (m : Station) → station-bytes m ≡ record-bytes (Master (m .hop)) ++ (highs-bytes (m .highs) ++ lows-bytes (m .lows))
+pub station-parts : (m : Station) → station-bytes m ≡ record-bytes (Master (m .hop)) ++ streams-bytes m
 station-parts m = ap (λ bs. record-bytes (Master (m .hop)) ++ bs) (joined-append record-bytes (map high-record (m .highs)) (map Low (m .lows)))
 
 -- a file is the version and the ring, then the masters
@@ -85,6 +95,9 @@ module _ {X : Type 0} (f : X → List ℕ) (head : List ℕ) (xs : List X) (i at
   module _ (x : X) (l : i < length xs) (is : x ≡ getD xs i x) where
     pub written-room : length (f x) ≤ length (take (length now - at) (drop at now))
     written-room = omega (arith, left, w .room, w .long, room-more f xs i x l is, length-append head (joined f (take i xs)), length-append head (joined f xs))
+
+    pub written-fits : at + length (f x) ≤ length now
+    written-fits = omega (arith, written-room, length-take (length now - at) (drop at now), length-drop at now, w .count)
 
     pub written-more : (after : List ℕ) (n : ℕ) → after ≡ laid (f x) (take (length now - at) (drop at now)) → n ≡ length (f x) → Written f head xs (i + 1) (at + n) buffer (putMid at (length now - at) now after)
     written-more after n wrote size =

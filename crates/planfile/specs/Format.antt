@@ -47,12 +47,15 @@ file-of rs = 1 ∷ joined record-bytes rs
 abbrev pub encoded : Net → List ℕ
 encoded n = file-of (records n)
 
--- the bytes of high streams, of low streams, and of a master with its streams
+-- the bytes of high streams, of low streams, of a master's streams, and of a master with them
 abbrev pub highs-bytes : List Stream → List ℕ
 highs-bytes ss = joined record-bytes (map high-record ss)
 
 abbrev pub lows-bytes : List ℕ → List ℕ
 lows-bytes cs = joined record-bytes (map Low cs)
+
+abbrev pub streams-bytes : Station → List ℕ
+streams-bytes m = highs-bytes (m .highs) ++ lows-bytes (m .lows)
 
 abbrev pub station-bytes : Station → List ℕ
 station-bytes m = joined record-bytes (station-records m)

@@ -1,11 +1,13 @@
 // Writing a plan file: each record writer is handed the rest of the buffer behind the record before.
 ghost use mathlib.Core.Path.{_≡_};
-ghost use mathlib.Core.List.{[], _∷_, _++_, map};
-ghost use Prim.Native.Nat.{_+_, _*_, _<_, _≤_};
+ghost use mathlib.Core.List.{List, [], _∷_, _++_};
+ghost use Prim.Native.Nat.{ℕ, _<_, _≤_};
 ghost use lib.ListN.{length};
+ghost use Rattle.std.specs.shelf.Lists.{joined};
 ghost use Rattle.std.specs.declared.result.Result.the-variants.{Ok, Err};
 ghost use Rattle.plan.specs.Views.{cycle-of, net, station-of, stream-of};
-ghost use Rattle.planfile.specs.Format.{encoded, four, framed, high-record, highs-bytes, lows-bytes, record-bytes, station-bytes, two};
+ghost use Rattle.planfile.specs.declared.records.Record.the-variants.{Low};
+ghost use Rattle.planfile.specs.Format.{encoded, four, framed, high-record, record-bytes, station-bytes, streams-bytes, two};
 ghost use Rattle.planfile.specs.Laying.{laid};
 use crate::VERSION;
 use crate::records::Record;
@@ -51,66 +53,80 @@ fn put_short(out: &mut [u8], kind: u8, n: u16) -> usize
     5
 }
 
-// Puts the record of a ring in front.
-fn put_ring(out: &mut [u8], target: u32) -> usize
+// The version and the record of the ring.
+const HEAD: usize = 8;
+
+// Puts the record of the ring in front.
+fn put_ring(out: &mut [u8], target: u32)
     requires { ⌜ 7 ≤ length (now out) ⌝ }
-    ensures value { λ r. ⌜ r ≡ 7 ⌝ }
-    ensures bytes { λ _. ⌜ now (out .exit) ≡ laid (record-bytes (Record.Ring target)) (now (out .entry)) ⌝ }
+    ensures { λ _. ⌜ now (out .exit) ≡ laid (record-bytes (Record.Ring target)) (now (out .entry)) ⌝ }
 {
     put_head(out, 5, 1);
     put_four(&mut out[3..], target);
-    7
 }
 
-// Puts the record of a high stream in front.
-fn put_high(out: &mut [u8], high: &HighStream) -> usize
-    requires { ⌜ 13 ≤ length (now out) ⌝ }
-    ensures value { λ r. ⌜ r ≡ 13 ⌝ }
-    ensures bytes { λ _. ⌜ now (out .exit) ≡ laid (record-bytes (high-record (stream-of (now (high .entry))))) (now (out .entry)) ⌝ }
+// What can be written: a stream, or a master with its streams.
+trait Encode {
+    ghost bytes: { Self → List ℕ };
+
+    // Puts its bytes in front; the answer is how many they are.
+    fn put(&self, out: &mut [u8]) -> usize
+        requires { ⌜ length (bytes (now self)) ≤ length (now out) ⌝ }
+        ensures value { λ r. ⌜ r ≡ length (bytes (now (self .entry))) ⌝ }
+        ensures bytes { λ _. ⌜ now (out .exit) ≡ laid (bytes (now (self .entry))) (now (out .entry)) ⌝ };
+}
+
+impl Encode for HighStream as HighEncode {
+    ghost bytes = { λ s. record-bytes (high-record (stream-of s)) };
+
+    fn put(&self, out: &mut [u8]) -> usize {
+        put_head(out, 11, 3);
+        put_two(&mut out[3..], self.cycle());
+        put_four(&mut out[5..], self.deadline());
+        put_two(&mut out[9..], self.generation());
+        put_two(&mut out[11..], self.delivery());
+        13
+    }
+}
+
+impl Encode for LowStream as LowEncode {
+    ghost bytes = { λ s. record-bytes (Low (cycle-of s)) };
+
+    fn put(&self, out: &mut [u8]) -> usize {
+        put_short(out, 4, self.cycle())
+    }
+}
+
+impl Encode for Master as MasterEncode {
+    ghost bytes = { λ m. station-bytes (station-of m) };
+
+    fn put(&self, out: &mut [u8]) -> usize {
+        let at = put_short(out, 2, self.hop());
+        at + put_streams(&mut out[at..], self)
+    }
+}
+
+// Puts the records of a master's streams in front, high before low.
+fn put_streams(out: &mut [u8], master: &Master) -> usize
+    requires { ⌜ length (streams-bytes (station-of (now master))) ≤ length (now out) ⌝ }
+    ensures value { λ r. ⌜ r ≡ length (streams-bytes (station-of (now (master .entry)))) ⌝ }
+    ensures bytes { λ _. ⌜ now (out .exit) ≡ laid (streams-bytes (station-of (now (master .entry)))) (now (out .entry)) ⌝ }
 {
-    put_head(out, 11, 3);
-    put_two(&mut out[3..], high.cycle());
-    put_four(&mut out[5..], high.deadline());
-    put_two(&mut out[9..], high.generation());
-    put_two(&mut out[11..], high.delivery());
-    13
+    let at = put_all(out, master.highs());
+    at + put_all(&mut out[at..], master.lows())
 }
 
-// Puts the records of high streams in front, one behind the other.
-fn put_highs(out: &mut [u8], highs: &[HighStream]) -> usize
-    requires { ⌜ length (highs-bytes (map stream-of (now highs))) ≤ length (now out) ⌝ }
-    ensures value { λ r. ⌜ r ≡ length (highs-bytes (map stream-of (now (highs .entry)))) ⌝ }
-    ensures bytes { λ _. ⌜ now (out .exit) ≡ laid (highs-bytes (map stream-of (now (highs .entry)))) (now (out .entry)) ⌝ }
+// Puts the bytes of all items in front, one behind the other.
+fn put_all<T: Encode>(out: &mut [u8], items: &[T]) -> usize
+    requires { ⌜ length (joined (T·Encode .bytes) (now items)) ≤ length (now out) ⌝ }
+    ensures value { λ r. ⌜ r ≡ length (joined (T·Encode .bytes) (now (items .entry))) ⌝ }
+    ensures bytes { λ _. ⌜ now (out .exit) ≡ laid (joined (T·Encode .bytes) (now (items .entry))) (now (out .entry)) ⌝ }
+    ensures within { λ r. ⌜ r ≤ length (now (out .exit)) ⌝ }
 {
     let mut at = 0;
-    for high in highs {
-        at += put_high(&mut out[at..], high);
+    for item in items {
+        at += item.put(&mut out[at..]);
     }
-    at
-}
-
-// Puts the records of low streams in front, one behind the other.
-fn put_lows(out: &mut [u8], lows: &[LowStream]) -> usize
-    requires { ⌜ length (lows-bytes (map cycle-of (now lows))) ≤ length (now out) ⌝ }
-    ensures value { λ r. ⌜ r ≡ length (lows-bytes (map cycle-of (now (lows .entry)))) ⌝ }
-    ensures bytes { λ _. ⌜ now (out .exit) ≡ laid (lows-bytes (map cycle-of (now (lows .entry)))) (now (out .entry)) ⌝ }
-{
-    let mut at = 0;
-    for low in lows {
-        at += put_short(&mut out[at..], 4, low.cycle());
-    }
-    at
-}
-
-// Puts the records of a master and of its streams in front.
-fn put_master(out: &mut [u8], master: &Master) -> usize
-    requires { ⌜ length (station-bytes (station-of (now master))) ≤ length (now out) ⌝ }
-    ensures value { λ r. ⌜ r ≡ length (station-bytes (station-of (now (master .entry)))) ⌝ }
-    ensures bytes { λ _. ⌜ now (out .exit) ≡ laid (station-bytes (station-of (now (master .entry)))) (now (out .entry)) ⌝ }
-{
-    let mut at = put_short(out, 2, master.hop());
-    at += put_highs(&mut out[at..], master.highs());
-    at += put_lows(&mut out[at..], master.lows());
     at
 }
 
@@ -127,7 +143,7 @@ pub fn size(plan: &Plan) -> usize
     ensures value { λ r. ⌜ r ≡ length (encoded (net (now (plan .entry)))) ⌝ }
     ensures most { λ r. ⌜ r ≤ 1040 ⌝ }
 {
-    let mut sum = 8;
+    let mut sum = HEAD;
     for master in plan.masters() {
         sum += master_size(master);
     }
@@ -145,9 +161,7 @@ pub fn write(plan: &Plan, out: &mut [u8]) -> Result<usize, Refusal>
         return Err(Refusal::BufferTooShort { needed });
     }
     out[0] = VERSION;
-    let mut at = 1 + put_ring(&mut out[1..], plan.target());
-    for master in plan.masters() {
-        at += put_master(&mut out[at..], master);
-    }
-    Ok(at)
+    put_ring(&mut out[1..], plan.target());
+    let masters = put_all(&mut out[HEAD..], plan.masters());
+    Ok(HEAD + masters)
 }

@@ -7,7 +7,7 @@ use Rattle.planfile.specs.declared.records.Record.the-variants.{High}
 use Rattle.planfile.specs.Format.{two, four, record-bytes}
 use Rattle.planfile.specs.Laying.{laid}
 use Rattle.planfile.proofs.Laid.{behind}
-use Rattle.planfile.proofs.writing.put_high.Needs as need
+use Rattle.planfile.proofs.writing.HighEncode.put.Needs as need
 
 -- the buffer with the rest of it, from the place n on, put back
 abbrev back : ℕ → List ℕ → List ℕ → List ℕ
