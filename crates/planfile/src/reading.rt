@@ -23,6 +23,7 @@ use refusal::Refusal;
 pub fn read(file: &[u8]) -> Result<Plan, Refusal>
     ensures value { λ r. ⌜ Cases r (λ p. now (file .entry) ≡ encoded (net p)) (λ e. Refused (now (file .entry)) e) ⌝ }
     ensures accepts { λ r. ⌜ ((n : Net) → Net-in-range n → now (file .entry) ≡ encoded n → Cases r (λ p. net p ≡ n) (λ _. ⊥)) ⌝ }
+    ensures back { λ r. ⌜ ((q : Plan) → now (file .entry) ≡ encoded (net q) → Cases r (λ p. net p ≡ net q) (λ _. ⊥)) ⌝ }
     ensures refuses { λ r. ⌜ ((e : Refusal) → Refused (now (file .entry)) e → r ≡ Err e) ⌝ }
 {
     if file.is_empty() || file[0] != VERSION {

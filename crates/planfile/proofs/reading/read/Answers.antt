@@ -43,7 +43,7 @@ returns-then-is-empty c =
       | need.then-is-empty·by·else-is-empty·then-file-ne-VERSION w ↦ inr (w .if-file-ne-VERSION .taken)
     ] in
     let right = version (unversioned file off) in
-    record { value = right; accepts = accepts file (Err BadVersion) right; refuses = refuses file (Err BadVersion) right }
+    record { value = right; accepts = accepts file (Err BadVersion) right; back = λ q. accepts file (Err BadVersion) right (net q) (net-in-range q); refuses = refuses file (Err BadVersion) right }
 
 pub read-records-requires : need.read-records-requires
 read-records-requires c κs =
@@ -56,4 +56,4 @@ returns c =
     let file = c .args .file .now in
     let r = c .read-records .result in
     let right = c .read-records .ensures in
-    record { value = right; accepts = accepts file r right; refuses = refuses file r right }
+    record { value = right; accepts = accepts file r right; back = λ q. accepts file r right (net q) (net-in-range q); refuses = refuses file r right }
