@@ -11,3 +11,6 @@ pub use writing::write;
 
 /// The first byte of a plan file.
 pub const VERSION: u8 = 1;
+
+/// How many bytes the longest plan file has: 8 masters with 8 high and 4 low streams each.
+pub const LONGEST: usize = 1_040;
