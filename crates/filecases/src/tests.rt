@@ -13,9 +13,8 @@ use refusal::RefusalPartialEq;
 use std::test::*;
 
 // The plan of two masters, byte by byte.
-const FIGURE: [u8; 49] = [
-    1, 0, 5, 1, 0, 0, 0, 100, 0, 3, 2, 0, 10, 0, 11, 3, 0, 50, 0, 0, 1, 44, 0, 5, 0, 5, 0, 3, 4, 0, 80, 0, 3, 2, 0, 10, 0, 11, 3, 0, 60, 0, 0, 1, 24, 0, 5, 0, 5,
-];
+const FIGURE: [u8; 49] =
+    *b"\x01\x00\x05\x01\x00\x00\x00\x64\x00\x03\x02\x00\x0a\x00\x0b\x03\x00\x32\x00\x00\x01\x2c\x00\x05\x00\x05\x00\x03\x04\x00\x50\x00\x03\x02\x00\x0a\x00\x0b\x03\x00\x3c\x00\x00\x01\x18\x00\x05\x00\x05";
 
 fn master(hop: u16) -> Result<Master, Fail> {
     match Master::new(hop) {
@@ -90,7 +89,10 @@ fn reads_the_figure() -> Result<(), Fail> {
 fn a_short_buffer_stays() -> Result<(), Fail> {
     let plan = two_masters()?;
     let mut short = [7; 48];
-    check_eq(planfile::write(&plan, &mut short), Err(Refusal::BufferTooShort { needed: 49 }))?;
+    check_eq(
+        planfile::write(&plan, &mut short),
+        Err(Refusal::BufferTooShort { needed: 49 }),
+    )?;
     check(short == [7; 48])?;
     let mut exact = [7; 49];
     check_eq(planfile::write(&plan, &mut exact), Ok(49))?;
@@ -101,7 +103,10 @@ fn a_short_buffer_stays() -> Result<(), Fail> {
 fn the_fullest_plan() -> Result<(), Fail> {
     let mut full = master(10_000)?;
     for _ in 0..8 {
-        check(full.add_high(high(60_000, 4_294_967_295, 60_000, 60_000)?).is_ok())?;
+        check(
+            full.add_high(high(60_000, 4_294_967_295, 60_000, 60_000)?)
+                .is_ok(),
+        )?;
     }
     for _ in 0..4 {
         check(full.add_low(low(60_000)?).is_ok())?;
@@ -139,22 +144,86 @@ struct Case {
 }
 
 const REFUSED: [Case; 16] = [
-    Case { file: b"", number: 1, at: 0 },
-    Case { file: b"\x02", number: 1, at: 0 },
-    Case { file: b"\x01\x00", number: 2, at: 1 },
-    Case { file: b"\x01\x00\x05\x01\x00\x00\x00", number: 2, at: 1 },
-    Case { file: b"\x01\x00\x00", number: 3, at: 1 },
-    Case { file: b"\x01\x00\x01\x09", number: 3, at: 1 },
-    Case { file: b"\x01\x00\x04\x01\x00\x00\x00", number: 3, at: 1 },
-    Case { file: b"\x01\x00\x03\x02\x00\x0a", number: 3, at: 1 },
-    Case { file: b"\x01\x00\x05\x01\x00\x00\x00\x64\x00\x05\x01\x00\x00\x00\x64", number: 3, at: 8 },
-    Case { file: b"\x01\x00\x05\x01\x00\x00\x00\x64\x00\x03\x04\x00\x50", number: 3, at: 8 },
-    Case { file: b"\x01\x00\x05\x01\x01\x00\x00\x00", number: 4, at: 1 },
-    Case { file: b"\x01\x00\x05\x01\x00\x00\x00\x64\x00\x03\x02\x00\x00", number: 4, at: 8 },
-    Case { file: b"\x01\x00\x05\x01\x00\x00\x00\x64\x00\x03\x02\x00\x0a\x00\x03\x04\xea\x61", number: 4, at: 13 },
-    Case { file: b"\x01\x00\x05\x01\x00\x00\x00\x64\x00\x03\x02\x00\x0a\x00\x03\x04\x00\x01\x00\x03\x04\x00\x01\x00\x03\x04\x00\x01\x00\x03\x04\x00\x01\x00\x03\x04\x00\x00", number: 5, at: 33 },
-    Case { file: b"\x01", number: 6, at: 1 },
-    Case { file: b"\x01\x00\x05\x01\x00\x00\x00\x64", number: 6, at: 8 },
+    Case {
+        file: b"",
+        number: 1,
+        at: 0,
+    },
+    Case {
+        file: b"\x02",
+        number: 1,
+        at: 0,
+    },
+    Case {
+        file: b"\x01\x00",
+        number: 2,
+        at: 1,
+    },
+    Case {
+        file: b"\x01\x00\x05\x01\x00\x00\x00",
+        number: 2,
+        at: 1,
+    },
+    Case {
+        file: b"\x01\x00\x00",
+        number: 3,
+        at: 1,
+    },
+    Case {
+        file: b"\x01\x00\x01\x09",
+        number: 3,
+        at: 1,
+    },
+    Case {
+        file: b"\x01\x00\x04\x01\x00\x00\x00",
+        number: 3,
+        at: 1,
+    },
+    Case {
+        file: b"\x01\x00\x03\x02\x00\x0a",
+        number: 3,
+        at: 1,
+    },
+    Case {
+        file: b"\x01\x00\x05\x01\x00\x00\x00\x64\x00\x05\x01\x00\x00\x00\x64",
+        number: 3,
+        at: 8,
+    },
+    Case {
+        file: b"\x01\x00\x05\x01\x00\x00\x00\x64\x00\x03\x04\x00\x50",
+        number: 3,
+        at: 8,
+    },
+    Case {
+        file: b"\x01\x00\x05\x01\x01\x00\x00\x00",
+        number: 4,
+        at: 1,
+    },
+    Case {
+        file: b"\x01\x00\x05\x01\x00\x00\x00\x64\x00\x03\x02\x00\x00",
+        number: 4,
+        at: 8,
+    },
+    Case {
+        file: b"\x01\x00\x05\x01\x00\x00\x00\x64\x00\x03\x02\x00\x0a\x00\x03\x04\xea\x61",
+        number: 4,
+        at: 13,
+    },
+    Case {
+        file: b"\x01\x00\x05\x01\x00\x00\x00\x64\x00\x03\x02\x00\x0a\x00\x03\x04\x00\x01\x00\x03\x04\x00\x01\x00\x03\x04\x00\x01\x00\x03\x04\x00\x01\x00\x03\x04\x00\x00",
+        number: 5,
+        at: 33,
+    },
+    Case {
+        file: b"\x01",
+        number: 6,
+        at: 1,
+    },
+    Case {
+        file: b"\x01\x00\x05\x01\x00\x00\x00\x64",
+        number: 6,
+        at: 8,
+    },
 ];
 
 #[test]

@@ -10,7 +10,12 @@ impl HighStream {
     pub fn new(cycle: u16, deadline: u32, generation: u16, delivery: u16) -> Option<HighStream>
         ensures { λ r. ⌜ Cases r (Stream-in-range (times cycle deadline generation delivery) → ⊥) (λ s. Stream-in-range (times cycle deadline generation delivery) × (stream-of s ≡ times cycle deadline generation delivery)) ⌝ }
     {
-        if cycle == 0 || cycle > 60_000 || deadline == 0 || generation > 60_000 || delivery > 60_000 {
+        if cycle == 0
+            || cycle > 60_000
+            || deadline == 0
+            || generation > 60_000
+            || delivery > 60_000
+        {
             return None;
         }
         Some(HighStream {

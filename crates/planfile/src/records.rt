@@ -34,15 +34,21 @@ impl Record {
             return None;
         }
         match (bytes[0], bytes.len()) {
-            (1, 5) => Some(Record::Ring { target: four_at(bytes, 1) }),
-            (2, 3) => Some(Record::Master { hop: two_at(bytes, 1) }),
+            (1, 5) => Some(Record::Ring {
+                target: four_at(bytes, 1),
+            }),
+            (2, 3) => Some(Record::Master {
+                hop: two_at(bytes, 1),
+            }),
             (3, 11) => Some(Record::High {
                 cycle: two_at(bytes, 1),
                 deadline: four_at(bytes, 3),
                 generation: two_at(bytes, 7),
                 delivery: two_at(bytes, 9),
             }),
-            (4, 3) => Some(Record::Low { cycle: two_at(bytes, 1) }),
+            (4, 3) => Some(Record::Low {
+                cycle: two_at(bytes, 1),
+            }),
             _ => None,
         }
     }

@@ -57,7 +57,10 @@ fn report(rt: &LibcRuntime, name: &str, plan: &Plan) -> io::Result<()> {
     let walk = plan.walk();
     let target = plan.target();
     let unset = if target == 0 { " (not set)" } else { "" };
-    println!(rt, "{name}: {count} master{plural}, walk {walk}, target {target}{unset}")?;
+    println!(
+        rt,
+        "{name}: {count} master{plural}, walk {walk}, target {target}{unset}"
+    )?;
     for (i, master) in masters.iter().enumerate() {
         report_master(rt, i + 1, master)?;
     }
@@ -73,7 +76,10 @@ fn report_master(rt: &LibcRuntime, number: usize, master: &Master) -> io::Result
         let deadline = high.deadline();
         let generation = high.generation();
         let delivery = high.delivery();
-        println!(rt, "  high {stream}: cycle {cycle}, deadline {deadline}, generation {generation}, delivery {delivery}")?;
+        println!(
+            rt,
+            "  high {stream}: cycle {cycle}, deadline {deadline}, generation {generation}, delivery {delivery}"
+        )?;
     }
     report_lows(rt, master)
 }

@@ -98,7 +98,8 @@ impl Refusal {
     {
         match self {
             Refusal::BadVersion => "no byte, or a version other than 1",
-            Refusal::CutShort { .. } => "fewer bytes left than the record announces or its length field needs",
+            Refusal::CutShort { .. } =>
+                "fewer bytes left than the record announces or its length field needs",
             Refusal::BadRecord { .. } => "unknown kind, wrong length or wrong order",
             Refusal::OutOfRange { .. } => "a number out of range",
             Refusal::TooMany { .. } => "a ninth master, ninth high stream or fifth low stream",
@@ -139,6 +140,9 @@ pub impl fmt::Display for Refusal as RefusalDisplay {
         let number = self.number();
         let place = self.place();
         let reason = self.reason();
-        write!(f, "refused by {layer}, number {number}, place {place}: {reason}")
+        write!(
+            f,
+            "refused by {layer}, number {number}, place {place}: {reason}"
+        )
     }
 }

@@ -79,7 +79,11 @@ impl Growing {
         requires { ⌜ Good (grown self) ⌝ }
         ensures { λ r. ⌜ Cases r (λ p. front-records (grown self) ≡ records (net p)) (λ _. ⊥) ⌝ }
     {
-        let Growing { target, mut done, last } = self;
+        let Growing {
+            target,
+            mut done,
+            last,
+        } = self;
         let _ = done.push(last);
         Plan::of(target, done).ok_or(Refusal::NoMaster { at })
     }
@@ -92,9 +96,12 @@ impl Growing {
         match next {
             Record::Ring { .. } => Err(Refusal::BadRecord { at }),
             Record::Master { hop } => self.add_master(hop, at),
-            Record::High { cycle, deadline, generation, delivery } => {
-                self.add_high(cycle, deadline, generation, delivery, at)
-            }
+            Record::High {
+                cycle,
+                deadline,
+                generation,
+                delivery,
+            } => { self.add_high(cycle, deadline, generation, delivery, at) }
             Record::Low { cycle } => self.add_low(cycle, at),
         }
     }
@@ -103,7 +110,11 @@ impl Growing {
         requires { ⌜ Good (grown self) ⌝ }
         ensures { λ r. ⌜ Grows (grown self) (Record.Master hop) at r ⌝ }
     {
-        let Growing { target, mut done, last } = self;
+        let Growing {
+            target,
+            mut done,
+            last,
+        } = self;
         let _ = done.push(last);
         if done.len() == MASTERS {
             return Err(Refusal::TooMany { at });
@@ -114,11 +125,22 @@ impl Growing {
         Ok(Draft::Masters(Growing { target, done, last }))
     }
 
-    fn add_high(self, cycle: u16, deadline: u32, generation: u16, delivery: u16, at: usize) -> Result<Draft, Refusal>
+    fn add_high(
+        self,
+        cycle: u16,
+        deadline: u32,
+        generation: u16,
+        delivery: u16,
+        at: usize,
+    ) -> Result<Draft, Refusal>
         requires { ⌜ Good (grown self) ⌝ }
         ensures { λ r. ⌜ Grows (grown self) (Record.High cycle deadline generation delivery) at r ⌝ }
     {
-        let Growing { target, done, mut last } = self;
+        let Growing {
+            target,
+            done,
+            mut last,
+        } = self;
         if !last.lows().is_empty() {
             return Err(Refusal::BadRecord { at });
         }
@@ -136,7 +158,11 @@ impl Growing {
         requires { ⌜ Good (grown self) ⌝ }
         ensures { λ r. ⌜ Grows (grown self) (Record.Low cycle) at r ⌝ }
     {
-        let Growing { target, done, mut last } = self;
+        let Growing {
+            target,
+            done,
+            mut last,
+        } = self;
         if last.lows().len() == LOWS {
             return Err(Refusal::TooMany { at });
         }

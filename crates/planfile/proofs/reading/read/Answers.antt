@@ -39,7 +39,7 @@ pub returns-then-is-empty : need.returns-then-is-empty
 returns-then-is-empty c =
     let file = c .args .file .now in
     let off : (length file ≡ 0) ⊎ (getD file 0 0 ≡ 1 → ⊥) = elim (c .then-is-empty .came) [
-      need.then-is-empty·by·then-is-empty w ↦ inl (eqb-true _ _ (sym (w .if-is-empty .ensures tt)))
+      | need.then-is-empty·by·then-is-empty w ↦ inl (eqb-true _ _ (sym (w .if-is-empty .ensures tt)))
       | need.then-is-empty·by·else-is-empty·then-file-ne-VERSION w ↦ inr (w .if-file-ne-VERSION .taken)
     ] in
     let right = version (unversioned file off) in
