@@ -22,7 +22,7 @@ impl<T: Copy, const N: usize> ArrayVec<T, N> {
         ensures value { λ r. ⌜ r ≡ length (items (now (self .entry))) ⌝ }
         ensures bound { λ r. ⌜ r ≤ N ⌝ }
     {
-        self.len
+        self.as_slice().len()
     }
 
     /// The items, in the order in which they came.

@@ -7,9 +7,10 @@ ghost use lib.ListN.{length};
 ghost use Rattle.bounded.specs.Items.{items};
 use bounded::ArrayVec;
 
+mod high_stream;
+mod low_stream;
 mod masters;
 mod plans;
-mod streams;
 
 /// How many masters a plan has room for.
 pub const MASTERS: usize = 8;

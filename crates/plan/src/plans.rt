@@ -77,7 +77,7 @@ impl Plan {
         ensures { λ r. ⌜ r ≡ walk (net (now (self .entry))) ⌝ }
     {
         let mut sum = 0;
-        for master in self.masters.as_slice() {
+        for master in self.masters() {
             sum += u32::from(master.hop);
         }
         sum

@@ -16,7 +16,7 @@ along ms = hops (map station-of ms)
 pub loop-master-again : need.loop-master-again
 unfolding along
 loop-master-again c =
-    let ms = c .as-slice-master-items .result .now in
+    let ms = c .masters-master-items .result .now in
     let i = c .loop-master .master-index in
     let m = c .master-item .result in
     let e : along (drop i ms) ≡ m .hop + along (drop (i + 1) ms) = at-item along ms i m (c .loop-master-test .taken) (c .master-item .is) in
@@ -25,7 +25,7 @@ loop-master-again c =
 pub returns : need.returns
 unfolding along
 returns c =
-    let ms = c .as-slice-master-items .result .now in
+    let ms = c .masters-master-items .result .now in
     let e : along (drop (c .loop-master .master-index) ms) ≡ 0 = at-drop-all along ms (c .loop-master .master-index) (c .loop-master-test .left) in
     let all : c .loop-master .sum ≡ along ms = omega arith in
-    all ∙ ap along (c .as-slice-master-items .ensures .value)
+    all ∙ ap hops (c .masters-master-items .ensures .value)

@@ -1,9 +1,8 @@
 ghost use mathlib.Core.Path.{_≡_};
 ghost use Rattle.std.specs.Options.{Cases};
-ghost use Rattle.plan.specs.Net.{Cycle-in-range, Stream-in-range, times};
-ghost use Rattle.plan.specs.Views.{stream-of, cycle-of};
+ghost use Rattle.plan.specs.Net.{Stream-in-range, times};
+ghost use Rattle.plan.specs.Views.{stream-of};
 use crate::HighStream;
-use crate::LowStream;
 
 impl HighStream {
     /// A high stream with these times; none where one is out of its range.
@@ -52,24 +51,5 @@ impl HighStream {
         ensures { λ r. ⌜ r ≡ stream-of (now (self .entry)) .delivery ⌝ }
     {
         self.delivery
-    }
-}
-
-impl LowStream {
-    /// A low stream with this longest cycle; none where that is out of its range.
-    pub fn new(cycle: u16) -> Option<LowStream>
-        ensures { λ r. ⌜ Cases r (Cycle-in-range cycle → ⊥) (λ s. Cycle-in-range cycle × (cycle-of s ≡ cycle)) ⌝ }
-    {
-        if cycle == 0 || cycle > 60_000 {
-            return None;
-        }
-        Some(LowStream { cycle })
-    }
-
-    /// The longest cycle.
-    pub fn cycle(&self) -> u16
-        ensures { λ r. ⌜ r ≡ cycle-of (now (self .entry)) ⌝ }
-    {
-        self.cycle
     }
 }
