@@ -1,5 +1,5 @@
 -- The plain numbers that the code's streams, masters and plans stand for. Unused slots never show.
-use mathlib.Core.List.{List, map}
+use mathlib.Core.List.{map}
 use Rattle.bounded.specs.Items.{items}
 use Rattle.plan.specs.Net.{Stream, Station, Net, Net-in-range}
 use Rattle.plan.specs.declared.HighStream.{HighStream}

@@ -1,7 +1,6 @@
 // The plan of a bus: its masters in token order, their high and low streams, and the target
 // rotation time. Times are whole bit times. Every type keeps its own ranges in a ghost field, so
 // no value that breaks them can be made.
-ghost use mathlib.Core.Path.{_≡_};
 ghost use Prim.Native.Nat.{_≤_};
 ghost use lib.ListN.{length};
 ghost use Rattle.bounded.specs.Items.{items};

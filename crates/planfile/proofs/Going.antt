@@ -1,6 +1,6 @@
 -- One step of reading: what becomes of the record at the place where a good front ends.
-use mathlib.Core.Path.{_≡_, sym, ap, subst, _∙_}
-use mathlib.Core.List.{List, [], _∷_, _++_}
+use mathlib.Core.Path.{_≡_, sym, ap, _∙_}
+use mathlib.Core.List.{List, _++_}
 use Prim.Native.Nat.{ℕ, _+_}
 use native.Mathlib.Omega.{arith}
 use lib.ListN.{length, drop}
@@ -9,7 +9,7 @@ use Rattle.refusal.specs.declared.Refusal.{Refusal}
 use Rattle.refusal.specs.declared.Refusal.the-variants.{BadRecord, CutShort}
 use Rattle.planfile.specs.declared.records.Record.{Record}
 use Rattle.planfile.specs.Format.{contents, framed, record-bytes}
-use Rattle.planfile.specs.Reading.{Front, Fits, Unfit, Cut, Stuck, Behind, Refused, written}
+use Rattle.planfile.specs.Reading.{Front, Fits, Unfit, Cut, Behind, Refused, written}
 use Rattle.planfile.specs.Reading.Stuck.{cut, unknown, unfit}
 use Rattle.planfile.specs.Reading.Refused.{stuck}
 use Rattle.planfile.proofs.Steps.{next-written}

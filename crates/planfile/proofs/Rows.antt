@@ -9,7 +9,6 @@ use Rattle.std.specs.shelf.Lists.{joined}
 use Rattle.std.proofs.shelf.Lists.{append-assoc, append-nil, length-append, length-drop, length-take, take-all, take-append-drop, take-more}
 use Rattle.bounded.proofs.Steps.{at-item}
 use Rattle.plan.specs.Net.{Stream, Station, Net}
-use Rattle.planfile.specs.declared.records.Record.{Record}
 use Rattle.planfile.specs.declared.records.Record.the-variants.{Ring, Master, Low}
 use Rattle.planfile.specs.Format.{encoded, high-record, highs-bytes, lows-bytes, record-bytes, station-bytes, station-records, streams-bytes}
 use Rattle.planfile.specs.Laying.{laid}
