@@ -1,12 +1,25 @@
 // Reports on a plan file: what is in it, or why it is turned down.
+ghost use mathlib.Core.List.{_++_};
+ghost use mathlib.Core.Path.{_≡_};
+ghost use lib.Chars.{codes};
+ghost use Rattle.std.specs.Of.String.{string-bytes};
+ghost use Rattle.std.specs.Vec.{made};
+ghost use Rattle.refusal.specs.Shown.{refusal-text};
 use plan::Master;
 use plan::Plan;
+use refusal::Refusal;
 use refusal::RefusalDisplay;
+use std::alloc::AllocError;
+use std::alloc::Global;
 use std::env;
 use std::error::AnyError;
+use std::fmt::Write;
 use std::fs;
 use std::io;
 use std::io::ErrorKind;
+
+#[cfg(test)]
+mod tests;
 
 fn main(rt: LibcRuntime) -> Result<(), AnyError> {
     let ended = run(&rt);
@@ -22,10 +35,8 @@ fn run(rt: &LibcRuntime) -> Result<(), AnyError> {
         Ok(file) => file,
         Err(e) => return Err(format!(rt.alloc(), "{name}: {e}")?.into()),
     };
-    match planfile::read(file.as_slice()) {
-        Ok(plan) => report(rt, name.as_str(), &plan)?,
-        Err(refusal) => println!(rt, "{name}: {refusal}")?,
-    }
+    let report = report(rt.alloc(), name.as_str(), file.as_slice())?;
+    print!(rt, "{report}")?;
     Ok(())
 }
 
@@ -50,45 +61,60 @@ fn contents(rt: &LibcRuntime, name: &str) -> io::Result<Vec<u8>> {
     }
 }
 
-fn report(rt: &LibcRuntime, name: &str, plan: &Plan) -> io::Result<()> {
+// The lines that tell what is in a file, or the one that tells why it is turned down.
+fn report(heap: Global, name: &str, file: &[u8]) -> Result<String, AnyError> {
+    match planfile::read(file) {
+        Ok(plan) => plan_lines(heap, name, &plan),
+        Err(refusal) => Ok(refusal_line(heap, name, refusal)?),
+    }
+}
+
+fn refusal_line(heap: Global, name: &str, refusal: Refusal) -> Result<String, AllocError>
+    ensures { λ r. ⌜ made r (λ s. string-bytes s ≡ now (name .entry) ++ (codes ": " ++ (refusal-text refusal ++ codes "\n"))) ⌝ }
+{
+    format!(heap, "{name}: {refusal}\n")
+}
+
+fn plan_lines(heap: Global, name: &str, plan: &Plan) -> Result<String, AnyError> {
+    let mut text = String::new(heap);
     let masters = plan.masters();
     let count = masters.len();
     let plural = if count == 1 { "" } else { "s" };
     let walk = plan.walk();
     let target = plan.target();
     let unset = if target == 0 { " (not set)" } else { "" };
-    println!(
-        rt,
+    writeln!(
+        text,
         "{name}: {count} master{plural}, walk {walk}, target {target}{unset}"
     )?;
     for (i, master) in masters.iter().enumerate() {
-        report_master(rt, i + 1, master)?;
+        add_master(&mut text, i + 1, master)?;
     }
-    Ok(())
+    Ok(text)
 }
 
-fn report_master(rt: &LibcRuntime, number: usize, master: &Master) -> io::Result<()> {
+fn add_master(text: &mut String, number: usize, master: &Master) -> Result<(), AnyError> {
     let hop = master.hop();
-    println!(rt, "master {number}: hop {hop}")?;
+    writeln!(text, "master {number}: hop {hop}")?;
     for (i, high) in master.highs().iter().enumerate() {
         let stream = i + 1;
         let cycle = high.cycle();
         let deadline = high.deadline();
         let generation = high.generation();
         let delivery = high.delivery();
-        println!(
-            rt,
+        writeln!(
+            text,
             "  high {stream}: cycle {cycle}, deadline {deadline}, generation {generation}, delivery {delivery}"
         )?;
     }
-    report_lows(rt, master)
+    add_lows(text, master)
 }
 
-fn report_lows(rt: &LibcRuntime, master: &Master) -> io::Result<()> {
+fn add_lows(text: &mut String, master: &Master) -> Result<(), AnyError> {
     for (i, low) in master.lows().iter().enumerate() {
         let stream = i + 1;
         let cycle = low.cycle();
-        println!(rt, "  low {stream}: cycle {cycle}")?;
+        writeln!(text, "  low {stream}: cycle {cycle}")?;
     }
     Ok(())
 }
