@@ -1,9 +1,8 @@
 ghost use mathlib.Core.Path.{_≡_};
 ghost use mathlib.Core.List.{[], _∷_, _++_};
-ghost use Prim.Native.Nat.{_≤_, _<_};
+ghost use Prim.Native.Nat.{_≤_};
 ghost use lib.ListN.{length, take};
-ghost use Rattle.std.specs.Results.{Cases};
-ghost use Rattle.bounded.specs.Items.{items};
+ghost use Rattle.bounded.specs.Items.{Pushed, items};
 use crate::ArrayVec;
 
 impl<T: Copy, const N: usize> ArrayVec<T, N> {
@@ -36,7 +35,7 @@ impl<T: Copy, const N: usize> ArrayVec<T, N> {
 
     /// Adds `x` behind the last item; where all N places are taken, hands it back and changes nothing.
     pub fn push(&mut self, x: T) -> Result<(), T>
-        ensures cases { λ r. ⌜ Cases r (λ _. (length (items (now (self .entry))) < N) × (items (now (self .exit)) ≡ items (now (self .entry)) ++ x ∷ [])) (λ y. (length (items (now (self .entry))) ≡ N) × (y ≡ x) × (now (self .exit) ≡ now (self .entry))) ⌝ }
+        ensures cases { λ r. ⌜ Pushed (now (self .entry)) (now (self .exit)) x r ⌝ }
         ensures items { λ _. ⌜ items (now (self .exit)) ≡ take N (items (now (self .entry)) ++ x ∷ []) ⌝ }
         ensures grows { λ _. ⌜ length (items (now (self .entry))) ≤ length (items (now (self .exit))) ⌝ }
     {

@@ -1,10 +1,10 @@
 ghost use mathlib.Core.Path.{_≡_};
 ghost use mathlib.Core.List.{map};
-ghost use Prim.Native.Nat.{_≤_, _<_};
+ghost use Prim.Native.Nat.{_≤_};
 ghost use lib.ListN.{length};
 ghost use Rattle.std.specs.Options.{Cases};
-ghost use Rattle.std.specs.Results.{Cases as ByResult};
-ghost use Rattle.plan.specs.Net.{Hop-in-range, bare, with-high, with-low};
+ghost use Rattle.plan.specs.Changes.{High-added, Low-added};
+ghost use Rattle.plan.specs.Net.{Hop-in-range, bare};
 ghost use Rattle.plan.specs.Views.{stream-of, cycle-of, station-of};
 use crate::HighStream;
 use crate::LowStream;
@@ -66,14 +66,14 @@ impl Master {
 
     /// Adds a high stream behind the others; hands a ninth back and changes nothing.
     pub fn add_high(&mut self, high: HighStream) -> Result<(), HighStream>
-        ensures { λ r. ⌜ ByResult r (λ _. (length (station-of (now (self .entry)) .highs) < 8) × (station-of (now (self .exit)) ≡ with-high (station-of (now (self .entry))) (stream-of high))) (λ back. (length (station-of (now (self .entry)) .highs) ≡ 8) × (back ≡ high) × (now (self .exit) ≡ now (self .entry))) ⌝ }
+        ensures { λ r. ⌜ High-added (now (self .entry)) (now (self .exit)) high r ⌝ }
     {
         self.highs.push(high)
     }
 
     /// Adds a low stream behind the others; hands a fifth back and changes nothing.
     pub fn add_low(&mut self, low: LowStream) -> Result<(), LowStream>
-        ensures { λ r. ⌜ ByResult r (λ _. (length (station-of (now (self .entry)) .lows) < 4) × (station-of (now (self .exit)) ≡ with-low (station-of (now (self .entry))) (cycle-of low))) (λ back. (length (station-of (now (self .entry)) .lows) ≡ 4) × (back ≡ low) × (now (self .exit) ≡ now (self .entry))) ⌝ }
+        ensures { λ r. ⌜ Low-added (now (self .entry)) (now (self .exit)) low r ⌝ }
     {
         self.lows.push(low)
     }

@@ -1,11 +1,11 @@
 ghost use mathlib.Core.Path.{_≡_};
 ghost use mathlib.Core.List.{map};
-ghost use Prim.Native.Nat.{_≤_, _<_};
+ghost use Prim.Native.Nat.{_≤_};
 ghost use lib.ListN.{length};
 ghost use Rattle.bounded.specs.Items.{items};
 ghost use Rattle.std.specs.Options.{Cases};
-ghost use Rattle.std.specs.Results.{Cases as ByResult};
-ghost use Rattle.plan.specs.Net.{fresh, planned, walk, with-master, with-target};
+ghost use Rattle.plan.specs.Changes.{Master-added, Retargeted};
+ghost use Rattle.plan.specs.Net.{fresh, planned, walk};
 ghost use Rattle.plan.specs.Views.{station-of, net, Every-plan-in-range};
 use crate::GREATEST_TARGET;
 use crate::MASTERS;
@@ -55,14 +55,14 @@ impl Plan {
 
     /// Adds a master behind the others; hands a ninth back and changes nothing.
     pub fn add_master(&mut self, master: Master) -> Result<(), Master>
-        ensures { λ r. ⌜ ByResult r (λ _. (length (net (now (self .entry)) .masters) < 8) × (net (now (self .exit)) ≡ with-master (net (now (self .entry))) (station-of master))) (λ back. (length (net (now (self .entry)) .masters) ≡ 8) × (back ≡ master) × (now (self .exit) ≡ now (self .entry))) ⌝ }
+        ensures { λ r. ⌜ Master-added (now (self .entry)) (now (self .exit)) master r ⌝ }
     {
         self.masters.push(master)
     }
 
     /// Sets the target and nothing else; refuses one above the greatest and changes nothing.
     pub fn set_target(&mut self, target: u32) -> Result<(), Refusal>
-        ensures cases { λ r. ⌜ ByResult r (λ _. (target ≤ 16777215) × (net (now (self .exit)) ≡ with-target (net (now (self .entry))) target)) (λ e. (16777215 < target) × (e ≡ Refusal.TargetTooLarge) × (now (self .exit) ≡ now (self .entry))) ⌝ }
+        ensures cases { λ r. ⌜ Retargeted (now (self .entry)) (now (self .exit)) target r ⌝ }
         ensures tables { λ _. ⌜ now (self .exit) .masters ≡ now (self .entry) .masters ⌝ }
     {
         if target > GREATEST_TARGET {

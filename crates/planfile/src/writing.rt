@@ -1,14 +1,13 @@
 // Writing a plan file: each record writer is handed the rest of the buffer behind the record before.
 ghost use mathlib.Core.Path.{_≡_};
 ghost use mathlib.Core.List.{List, [], _∷_, _++_};
-ghost use Prim.Native.Nat.{ℕ, _<_, _≤_};
+ghost use Prim.Native.Nat.{ℕ, _≤_};
 ghost use lib.ListN.{length};
 ghost use Rattle.std.specs.shelf.Lists.{joined};
-ghost use Rattle.std.specs.declared.result.Result.the-variants.{Ok, Err};
 ghost use Rattle.plan.specs.Views.{cycle-of, net, station-of, stream-of};
 ghost use Rattle.planfile.specs.declared.records.Record.the-variants.{Low};
 ghost use Rattle.planfile.specs.Format.{encoded, four, framed, high-record, record-bytes, station-bytes, streams-bytes, two};
-ghost use Rattle.planfile.specs.Laying.{laid};
+ghost use Rattle.planfile.specs.Laying.{Wrote, laid};
 use crate::VERSION;
 use crate::records::Record;
 use plan::HighStream;
@@ -153,8 +152,7 @@ pub fn size(plan: &Plan) -> usize
 /// Writes the file of a plan to the front of a buffer; bytes behind it stay. The answer is how many
 /// bytes it has. A buffer that is too short is refused, with the bytes needed, and stays as it was.
 pub fn write(plan: &Plan, out: &mut [u8]) -> Result<usize, Refusal>
-    ensures fits { λ r. ⌜ (length (encoded (net (now (plan .entry)))) ≤ length (now (out .entry)) → (r ≡ Ok (length (encoded (net (now (plan .entry)))))) × (now (out .exit) ≡ laid (encoded (net (now (plan .entry)))) (now (out .entry)))) ⌝ }
-    ensures short { λ r. ⌜ (length (now (out .entry)) < length (encoded (net (now (plan .entry)))) → (r ≡ Err (Refusal.BufferTooShort (length (encoded (net (now (plan .entry))))))) × (now (out .exit) ≡ now (out .entry))) ⌝ }
+    ensures { λ r. ⌜ Wrote (encoded (net (now (plan .entry)))) (now (out .entry)) (now (out .exit)) r ⌝ }
 {
     let needed = size(plan);
     if out.len() < needed {
