@@ -27,7 +27,7 @@ pub data Next : Front → Record → Front → Type 0 where
   high : {t c d g v : ℕ} {done : List Station} {m : Station} → m .lows ≡ [] → Next (growing t done m) (High c d g v) (growing t done (with-high m (times c d g v)))
   low : {t c : ℕ} {done : List Station} {m : Station} → Next (growing t done m) (Low c) (growing t done (with-low m c))
 
--- at most 8 masters, 8 high and 4 low streams
+-- at most 8 masters, the last one counted with those that are done, and at most 8 high and 4 low streams of the last
 abbrev pub Room : Front → Type 0
 Room start = Unit {0}
 Room (ringed t) = Unit {0}
