@@ -1,16 +1,17 @@
 -- One record more behind a plan in the making: what it takes to fit, and what it cannot be.
-use mathlib.Core.Path.{_≡_, refl, sym, ap, subst, _∙_}
+use mathlib.Core.Path.{_≡_, refl, sym, ap, subst}
 use mathlib.Core.List.{List, [], _∷_, _++_, map}
 use Prim.Native.Nat.{ℕ, _+_, _<_, _≤_}
 use native.Mathlib.Omega.{arith}
 use lib.ListN.{length, take}
-use Rattle.std.proofs.shelf.Lists.{length-push, length-map, map-push, take-all}
+use Rattle.std.proofs.shelf.Lists.{length-push}
 use Rattle.std.specs.Results.{Cases}
 use Rattle.std.specs.declared.result.Result.{Result}
 use Rattle.std.specs.declared.result.Result.the-variants.{Ok, Err}
 use Rattle.refusal.specs.declared.Refusal.the-variants.{BadRecord, TooMany, OutOfRange}
 use Rattle.plan.specs.Net.{Station, times, bare, with-high, with-low, Target-in-range, Hop-in-range, Cycle-in-range, Stream-in-range}
 use Rattle.bounded.specs.Items.{items}
+use Rattle.bounded.proofs.Pushes.{shows-push}
 use Rattle.plan.specs.Views.{station-of}
 use Rattle.plan.specs.declared.Master as plan
 use Rattle.planfile.specs.declared.draft.Growing.{Growing}
@@ -21,12 +22,6 @@ use Rattle.planfile.specs.Reading.{Front, Next, Room, Good, Fits, Unfit}
 use Rattle.planfile.specs.Reading.Front.{start, ringed, growing}
 use Rattle.planfile.specs.Reading.Next.{ring, first, master, high, low}
 use Rattle.planfile.specs.Reading.Unfit.{misplaced, crowded, beyond}
-
--- where there is room, what a bounded list shows after a push
-pub shows-push : {X Y : Type 0} (f : X → Y) (n : ℕ) (xs ys : List X) (x : X) → ys ≡ take n (xs ++ x ∷ []) → length (map f xs) < n → map f ys ≡ map f xs ++ f x ∷ []
-shows-push f n xs ys x e l =
-    let fits : length (xs ++ x ∷ []) ≤ n = omega (arith, length-push xs x, length-map xs f) in
-    ap (map f) (e ∙ take-all n (xs ++ x ∷ []) fits) ∙ map-push f xs x
 
 -- a call that could only be refused for a reason that does not hold was not
 pub taken : {X Y S : Type 0} {Q : Y → Type 0} (r : Result X Y) → Cases r (λ _. S) Q → ((y : Y) → Q y → ⊥) → S

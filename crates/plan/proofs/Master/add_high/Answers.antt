@@ -1,9 +1,7 @@
-use mathlib.Core.Path.{refl, ap, _∙_}
-use mathlib.Core.List.{List, map}
-use native.Mathlib.Omega.{arith}
+use mathlib.Core.Path.{refl, ap}
+use mathlib.Core.List.{List}
 use Rattle.std.proofs.shelf.Results.{cases-weaker}
-use Rattle.std.proofs.shelf.Lists.{map-push, length-map}
-use Rattle.bounded.specs.Items.{items}
+use Rattle.bounded.proofs.Pushes.{shown-pushed}
 use Rattle.plan.specs.Net.{Stream, Station}
 use Rattle.plan.specs.Views.{stream-of, station-of}
 use Rattle.plan.proofs.Same.{same-master}
@@ -12,8 +10,6 @@ use Rattle.plan.proofs.Master.add_high.Needs as need
 pub returns : need.returns
 returns c =
     let m = c .args .self .now in
-    let before = items (m .highs) in
-    let grown : List Stream → Station = λ hs. record { hop = m .hop; highs = hs; lows = station-of m .lows } in
-    cases-weaker (c .push .result) (c .push .ensures .cases)
-    (λ _ p. (omega (arith, p .0, length-map before stream-of), ap grown (ap (map stream-of) (p .1) ∙ map-push stream-of before (c .args .high))))
-    (λ y q. (length-map before stream-of ∙ q .0, q .1, same-master _ _ refl (q .2) refl))
+    let with-streams : List Stream → Station = λ xs. record { hop = m .hop; highs = xs; lows = station-of m .lows } in
+    let shown = shown-pushed stream-of (m .highs) (c .push .last .self) (c .args .high) (c .push .result) (c .push .ensures .cases) in
+    cases-weaker (c .push .result) shown (λ _ a. (a .0, ap with-streams (a .1))) (λ y q. (q .0, q .1, same-master _ _ refl (q .2) refl))

@@ -1,10 +1,8 @@
-use mathlib.Core.Path.{refl, ap, _∙_}
-use mathlib.Core.List.{List, map}
+use mathlib.Core.Path.{refl, ap}
+use mathlib.Core.List.{List}
 use Prim.Native.Nat.{ℕ}
-use native.Mathlib.Omega.{arith}
 use Rattle.std.proofs.shelf.Results.{cases-weaker}
-use Rattle.std.proofs.shelf.Lists.{map-push, length-map}
-use Rattle.bounded.specs.Items.{items}
+use Rattle.bounded.proofs.Pushes.{shown-pushed}
 use Rattle.plan.specs.Net.{Station}
 use Rattle.plan.specs.Views.{cycle-of, station-of}
 use Rattle.plan.proofs.Same.{same-master}
@@ -13,8 +11,6 @@ use Rattle.plan.proofs.Master.add_low.Needs as need
 pub returns : need.returns
 returns c =
     let m = c .args .self .now in
-    let before = items (m .lows) in
-    let grown : List ℕ → Station = λ ls. record { hop = m .hop; highs = station-of m .highs; lows = ls } in
-    cases-weaker (c .push .result) (c .push .ensures .cases)
-    (λ _ p. (omega (arith, p .0, length-map before cycle-of), ap grown (ap (map cycle-of) (p .1) ∙ map-push cycle-of before (c .args .low))))
-    (λ y q. (length-map before cycle-of ∙ q .0, q .1, same-master _ _ refl refl (q .2)))
+    let with-streams : List ℕ → Station = λ xs. record { hop = m .hop; highs = station-of m .highs; lows = xs } in
+    let shown = shown-pushed cycle-of (m .lows) (c .push .last .self) (c .args .low) (c .push .result) (c .push .ensures .cases) in
+    cases-weaker (c .push .result) shown (λ _ a. (a .0, ap with-streams (a .1))) (λ y q. (q .0, q .1, same-master _ _ refl refl (q .2)))
