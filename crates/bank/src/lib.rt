@@ -1,6 +1,8 @@
 // Banks: what holds the high requests that wait at all masters. The interface says what every
 // bank means; which stream a take gives is left to each bank's policy. A bank can be made of eight
 // queues, one for each master.
+#![tactic(auto)]
+
 ghost use Rattle.std.specs.Prelude.{◌≡◌, ℕ, ◌≤◌, Bool, Option, nat_lt};
 ghost use Rattle.bank.specs.Meaning.{Idle, Lawful, Line, LinePut, LineTake, Meaning, Orderly, Put, Take};
 

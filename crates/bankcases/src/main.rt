@@ -2,6 +2,8 @@
 // the letter of its policy (first-come, cyclic or batch) and its calls; a call is a letter and eight
 // numbers of one letter each, of which it uses as many as it needs: s shapes the bank, n asks for a
 // size, t for turns, w whether a stream waits, p puts and g takes.
+#![tactic(auto)]
+
 use bank::{Bank, Queue, QueueBank};
 use batch::BatchBank;
 use cyclic::CyclicBank;

@@ -1,4 +1,6 @@
 // The batch policy: a take gives the lowest of a closed group, while newcomers gather in an open one.
+#![tactic(auto)]
+
 ghost use Rattle.std.specs.Prelude.{◌≡◌, ℕ, true, false};
 ghost use Rattle.streams.specs.Members.{members};
 ghost use Rattle.streams.specs.Streams.{AllAmong};

@@ -1,5 +1,7 @@
 // A list by value with room for N items and no heap. A bus card has no heap, and a plan's
 // tables have bounds of their own, so nothing here can fail for want of memory.
+#![tactic(auto)]
+
 ghost use Rattle.std.specs.Prelude.{◌≡◌, ◌≤◌, length};
 
 mod ops;

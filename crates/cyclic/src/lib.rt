@@ -1,4 +1,6 @@
 // The cyclic policy: a take looks from the stream after the one given last, and wraps.
+#![tactic(auto)]
+
 ghost use Rattle.std.specs.Prelude.{◌≤◌};
 ghost use Rattle.streams.specs.Members.{members};
 ghost use Rattle.streams.specs.Streams.{AllAmong};

@@ -1,5 +1,7 @@
 // Reads files in hexadecimal, one to a line of standard input, and answers each with a line: `ok` and
 // the bytes that its plan writes, or the number and the place of its refusal.
+#![tactic(auto)]
+
 ghost use Rattle.std.specs.Prelude.{◌<◌, IfSome};
 
 use planfile::LONGEST;

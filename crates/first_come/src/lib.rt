@@ -1,4 +1,6 @@
 // The first-come policy: a take gives the longest waiting.
+#![tactic(auto)]
+
 ghost use Rattle.std.specs.Prelude.{◌≡◌, ◌≤◌, true, length, take};
 ghost use Rattle.first_come.specs.Order.{all_among, once};
 

@@ -1,6 +1,8 @@
 // The plan of a bus: its masters in token order, their high and low streams, and the target
 // rotation time. Times are whole bit times. Every type keeps its own ranges in a ghost field, so
 // no value that breaks them can be made.
+#![tactic(auto)]
+
 ghost use Rattle.std.specs.Prelude.{◌≤◌, length};
 ghost use Rattle.bounded.specs.Items.{items};
 

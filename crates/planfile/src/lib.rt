@@ -1,4 +1,6 @@
 // The plan file: a version byte, then records, all numbers with the higher byte first.
+#![tactic(auto)]
+
 mod bytes;
 mod draft;
 mod reading;

@@ -1,4 +1,6 @@
 // Reports on a plan file: what is in it, or why it is turned down.
+#![tactic(auto)]
+
 ghost use Rattle.std.specs.Prelude.{◌≡◌, ◌++◌, IfOk, string_bytes, codes};
 ghost use Rattle.refusal.specs.Shown.{refusal_text};
 

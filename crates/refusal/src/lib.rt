@@ -1,5 +1,7 @@
 // What a refusal is: one case for each thing that can be wrong, with the place where it is.
 // Every layer answers this one type, so `?` carries a refusal up whole.
+#![tactic(auto)]
+
 ghost use Rattle.std.specs.Prelude.{◌≡◌, Some};
 ghost use Rattle.refusal.specs.Refusals.{layer_of, number_of, place_of, reason_of};
 ghost use Rattle.refusal.specs.Shown.{layer_text, place_text, refusal_text};

@@ -1,4 +1,6 @@
 // Sets of streams by value: a flag for each number from 1 to 8.
+#![tactic(auto)]
+
 ghost use Rattle.std.specs.Prelude.{◌≡◌, false, length, slice_index_or};
 
 mod stream_set;
