@@ -7,7 +7,7 @@ ghost use Rattle.std.specs.Prelude.{◌≡◌, ◌≤◌, length};
 mod ops;
 
 /// A list of at most N items. The slots past its length hold items that never show.
-#[derive(Clone, Copy)]
+#[derive(Copy)]
 pub struct ArrayVec<T, const N: usize> {
     slots: [T; N],
     len: usize,

@@ -1,7 +1,18 @@
-ghost use Rattle.std.specs.Prelude.{◌≡◌, ◌≤◌, [], ◌∷◌, ◌++◌, length, take};
+ghost use Rattle.std.specs.Prelude.{◌≡◌, ◌≤◌, [], ◌∷◌, ◌++◌, length, take, ⊤};
 ghost use Rattle.bounded.specs.Items.{Pushed, items};
 
 use crate::ArrayVec;
+use std::alloc::AllocError;
+
+impl<T: Copy, const N: usize> Clone for ArrayVec<T, N> {
+    ghost is_clone = { λ v w. w ≡ v };
+
+    ghost is_infallible = { λ _. ⊤ };
+
+    fn clone(&self) -> Result<ArrayVec<T, N>, AllocError> {
+        Ok(*self)
+    }
+}
 
 impl<T: Copy, const N: usize> ArrayVec<T, N> {
     /// The empty list. `fill` is put into the unused slots and never shows.
