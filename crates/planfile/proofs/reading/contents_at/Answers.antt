@@ -13,7 +13,7 @@ pub returns-then-left-announced : goal.returns-then-left-announced
 returns-then-left-announced c =
     let rest = drop c.args.at c.args.file.now in
     let long = length-drop c.args.at c.args.file.now in
-    let says : announced rest ≡ c.two-at.result = announced_is rest _ c.two-at.result c.two-at.ensures in
+    let says : announced rest ≡ c.two_at.result = announced_is rest _ c.two_at.result c.two_at.ensures in
     let short : length rest < 2 + announced rest = omega arith in
     (refl, (omega arith, inr short))
 
@@ -23,6 +23,6 @@ returns c =
     let at = c.args.at in
     let n = c.from-announced.result in
     let size : at + 2 + n - (at + 2) ≡ n = omega arith in
-    let same : c.two-at.result ≡ n = sym c.from-announced.ensures in
-    let field : drop at file ≡ two n ++ drop (at + 2) file = c.two-at.ensures ∙ ap (λ m. two m ++ drop (at + 2) file) same in
+    let same : c.two_at.result ≡ n = sym c.from-announced.ensures in
+    let field : drop at file ≡ two n ++ drop (at + 2) file = c.two_at.ensures ∙ ap (λ m. two m ++ drop (at + 2) file) same in
     framed_there file at n _ (omega arith) field (ap (λ m. take m (drop (at + 2) file)) size)

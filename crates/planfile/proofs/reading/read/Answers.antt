@@ -27,25 +27,25 @@ module _ (file : List ℕ) where
   unversioned (inl none) v = omega (arith, none, ap length v.1)
   unversioned (inr other) v = other (ap (λ xs. get_or xs 0 0) v.1)
 
-pub returns-then-is-empty : goal.returns-then-is-empty
-returns-then-is-empty c =
+pub returns-then-is_empty : goal.returns-then-is_empty
+returns-then-is_empty c =
     let file = c.args.file.now in
-    let off : (length file ≡ 0) ⊎ (get_or file 0 0 ≡ 1 → ⊥) = elim c.then-is-empty.branch [
-      | goal.then-is-empty-via-then-is-empty w ↦ inl (eqb-true _ _ (sym w.if-is-empty.ensures))
-      | goal.then-is-empty-via-else-is-empty+then-file-ne-VERSION w ↦ inr w.if-file-ne-VERSION.true
+    let off : (length file ≡ 0) ⊎ (get_or file 0 0 ≡ 1 → ⊥) = elim c.then-is_empty.branch [
+      | goal.then-is_empty-via-then-is_empty w ↦ inl (eqb-true _ _ (sym w.if-is_empty.ensures))
+      | goal.then-is_empty-via-else-is_empty+then-file-ne-VERSION w ↦ inr w.if-file-ne-VERSION.true
     ] in
     let right = version (unversioned file off) in
     record { value = right; accepts = accepts file (Err BadVersion) right; back = λ q. accepts file (Err BadVersion) right (net q) (net_in_range q); refuses = refuses file (Err BadVersion) right }
 
-pub read-records-requires : goal.read-records-requires
-read-records-requires c =
+pub read_records-requires : goal.read_records-requires
+read_records-requires c =
     let file = c.args.file.now in
-    let some = eqb-false _ _ (sym c.if-is-empty.ensures) in
+    let some = eqb-false _ _ (sym c.if-is_empty.ensures) in
     (drop 1 file, headed file (length file) 1 refl (omega (arith, some)) c.if-file-ne-VERSION.false)
 
 pub returns : goal.returns
 returns c =
     let file = c.args.file.now in
-    let r = c.read-records.result in
-    let right = c.read-records.ensures in
+    let r = c.read_records.result in
+    let right = c.read_records.ensures in
     record { value = right; accepts = accepts file r right; back = λ q. accepts file r right (net q) (net_in_range q); refuses = refuses file r right }

@@ -8,10 +8,10 @@ loop-item-init g c = record { within = omega arith; count = omega arith; room = 
 pub put-at-requires : goal.put-at-requires
 put-at-requires g c = written_room g.T.Encode.bytes [] _ _ _ _ _ c.loop-item.invariant c.item-item.result c.loop-item-test.true c.item-item.is
 
-pub overflow-add-at : goal.overflow-add-at
-overflow-add-at g c =
+pub overflow_add-at : goal.overflow_add-at
+overflow_add-at g c =
     let fits = written_fits g.T.Encode.bytes [] _ _ _ _ _ c.loop-item.invariant c.item-item.result c.loop-item-test.true c.item-item.is in
-    omega (arith, fits, c.put-at.ensures.value, c.loop-item.auto.out, c.well-formed)
+    omega (arith, fits, c.put-at.ensures.value, c.loop-item.auto.out, c.well_formed)
 
 pub loop-item-preserved : goal.loop-item-preserved
 loop-item-preserved g c = written_more g.T.Encode.bytes [] _ _ _ _ _ c.loop-item.invariant c.item-item.result c.loop-item-test.true c.item-item.is _ _ c.put-at.ensures.bytes c.put-at.ensures.value

@@ -17,24 +17,24 @@ parts m highs lows h l =
     let second = sym (lows_view cycle_of lows m.lows l) in
     λ i. first i ++ second i
 
-pub put-all-at-requires : goal.put-all-at-requires
-put-all-at-requires c =
+pub put_all-at-requires : goal.put_all-at-requires
+put_all-at-requires c =
     let m = station_of c.args.master.now in
     let first = sym (highs_view stream_of c.highs.result.now m.highs c.highs.ensures.value) in
     room_first (streams_bytes m) _ (lows_bytes m.lows) _ (λ i. first i ++ lows_bytes m.lows) c.requires
 
-pub put-all-requires : goal.put-all-requires
-put-all-requires c = room_second _ _ _ _ (parts (station_of c.args.master.now) _ _ c.highs.ensures.value c.lows.ensures.value) c.requires _ _ c.put-all-at.ensures.value c.put-all-at.ensures.bytes
+pub put_all-requires : goal.put_all-requires
+put_all-requires c = room_second _ _ _ _ (parts (station_of c.args.master.now) _ _ c.highs.ensures.value c.lows.ensures.value) c.requires _ _ c.put_all-at.ensures.value c.put_all-at.ensures.bytes
 
-pub overflow-add-result : goal.overflow-add-result
-overflow-add-result c =
-    let fits = sum_fits _ _ _ _ (parts (station_of c.args.master.now) _ _ c.highs.ensures.value c.lows.ensures.value) c.requires _ _ c.put-all-at.ensures.value c.put-all-at.ensures.bytes _ _ c.put-all.ensures.value c.put-all.ensures.bytes in
-    omega (arith, fits, c.well-formed)
+pub overflow_add-result : goal.overflow_add-result
+overflow_add-result c =
+    let fits = sum_fits _ _ _ _ (parts (station_of c.args.master.now) _ _ c.highs.ensures.value c.lows.ensures.value) c.requires _ _ c.put_all-at.ensures.value c.put_all-at.ensures.bytes _ _ c.put_all.ensures.value c.put_all.ensures.bytes in
+    omega (arith, fits, c.well_formed)
 
 pub returns : goal.returns
 returns c =
     let is = parts (station_of c.args.master.now) _ _ c.highs.ensures.value c.lows.ensures.value in
     record {
-      value = sum_both _ _ _ _ is c.requires _ _ c.put-all-at.ensures.value c.put-all-at.ensures.bytes _ _ c.put-all.ensures.value c.put-all.ensures.bytes;
-      bytes = laid_both _ _ _ _ is c.requires _ _ c.put-all-at.ensures.value c.put-all-at.ensures.bytes _ _ c.put-all.ensures.value c.put-all.ensures.bytes;
+      value = sum_both _ _ _ _ is c.requires _ _ c.put_all-at.ensures.value c.put_all-at.ensures.bytes _ _ c.put_all.ensures.value c.put_all.ensures.bytes;
+      bytes = laid_both _ _ _ _ is c.requires _ _ c.put_all-at.ensures.value c.put_all-at.ensures.bytes _ _ c.put_all.ensures.value c.put_all.ensures.bytes;
     }

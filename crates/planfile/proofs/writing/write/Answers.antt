@@ -23,12 +23,12 @@ headed out rest = put_mid 1 (length (set out 0 1) - 1) (set out 0 1) rest
 head : (out rest : List ℕ) (t : ℕ) → 0 < length out → rest ≡ laid (record_bytes (Ring t)) (take (length (set out 0 1) - 1) (drop 1 (set out 0 1))) → headed out rest ≡ laid (1 ∷ record_bytes (Ring t)) out
 head out rest t some e = behind (1 ∷ []) (record_bytes (Ring t)) out (set out 0 1) rest 1 refl (set_split out 0 1 some) e
 
-pub put-all-masters-requires : goal.put-all-masters-requires
-put-all-masters-requires c =
+pub put_all-masters-requires : goal.put_all-masters-requires
+put_all-masters-requires c =
     let out = c.args.out.now in
     let n = net c.args.plan.now in
     let room : length (encoded n) ≤ length out = omega (arith, c.size-needed.ensures.value, c.if-out-needed.false) in
-    let front = head out c.put-ring.new.out c.target.result (omega arith) c.put-ring.ensures ∙ ap (λ t. laid (1 ∷ record_bytes (Ring t)) out) c.target.ensures in
+    let front = head out c.put_ring.new.out c.target.result (omega arith) c.put_ring.ensures ∙ ap (λ t. laid (1 ∷ record_bytes (Ring t)) out) c.target.ensures in
     room_second _ (1 ∷ record_bytes (Ring n.target)) _ _ (parts n c.masters.result.now c.masters.ensures.value) room _ 8 refl front
 
 pub returns : goal.returns
@@ -36,12 +36,12 @@ returns c =
     let out = c.args.out.now in
     let n = net c.args.plan.now in
     let room : length (encoded n) ≤ length out = omega (arith, c.size-needed.ensures.value, c.if-out-needed.false) in
-    let front = head out c.put-ring.new.out c.target.result (omega arith) c.put-ring.ensures ∙ ap (λ t. laid (1 ∷ record_bytes (Ring t)) out) c.target.ensures in
+    let front = head out c.put_ring.new.out c.target.result (omega arith) c.put_ring.ensures ∙ ap (λ t. laid (1 ∷ record_bytes (Ring t)) out) c.target.ensures in
     let is = parts n c.masters.result.now c.masters.ensures.value in
     record {
       fits = λ _. (
-        ap Ok (sum_both _ (1 ∷ record_bytes (Ring n.target)) _ _ is room _ 8 refl front _ _ c.put-all-masters.ensures.value c.put-all-masters.ensures.bytes),
-        laid_both _ (1 ∷ record_bytes (Ring n.target)) _ _ is room _ 8 refl front _ _ c.put-all-masters.ensures.value c.put-all-masters.ensures.bytes,
+        ap Ok (sum_both _ (1 ∷ record_bytes (Ring n.target)) _ _ is room _ 8 refl front _ _ c.put_all-masters.ensures.value c.put_all-masters.ensures.bytes),
+        laid_both _ (1 ∷ record_bytes (Ring n.target)) _ _ is room _ 8 refl front _ _ c.put_all-masters.ensures.value c.put_all-masters.ensures.bytes,
       );
       short = λ s. absurd (omega (arith, room, s));
     }

@@ -6,26 +6,26 @@ use Rattle.plan.specs.Views.{station_of}
 use Rattle.planfile.proofs.Growth.{taken, high_misplaced, high_crowded, high_beyond, high_fits}
 use Rattle.planfile.proofs.draft.Growing.add_high.Goals as goal
 
-pub returns-then-not-is-empty : goal.returns-then-not-is-empty
-returns-then-not-is-empty c =
-    let some = eqb-false _ _ (sym c.if-not-is-empty.ensures) in
+pub returns-then-not-is_empty : goal.returns-then-not-is_empty
+returns-then-not-is_empty c =
+    let some = eqb-false _ _ (sym c.if-not-is_empty.ensures) in
     high_misplaced _ _ _ _ c.requires _ _ _ _ (omega (arith, some, c.lows.ensures.len))
 
 pub returns-then-highs-eq-HIGHS : goal.returns-then-highs-eq-HIGHS
 returns-then-highs-eq-HIGHS c =
-    let none : length c.lows.result.now ≡ 0 = eqb-true _ _ (sym c.if-not-is-empty.ensures) in
+    let none : length c.lows.result.now ≡ 0 = eqb-true _ _ (sym c.if-not-is_empty.ensures) in
     high_crowded _ _ _ _ c.requires _ _ _ _ (nil_from_length _ (sym c.lows.ensures.len ∙ none)) (omega (arith, c.highs.ensures.len, c.if-highs-eq-HIGHS.true))
 
-pub returns-in-default : goal.returns-in-default
-returns-in-default c =
-    let none : length c.lows.result.now ≡ 0 = eqb-true _ _ (sym c.if-not-is-empty.ensures) in
-    high_beyond _ _ _ _ c.requires _ _ _ _ (nil_from_length _ (sym c.lows.ensures.len ∙ none)) (omega (arith, c.highs.ensures.len, c.highs.ensures.bound, c.if-highs-eq-HIGHS.false)) c.in-default.ensures
+pub returns-in_default : goal.returns-in_default
+returns-in_default c =
+    let none : length c.lows.result.now ≡ 0 = eqb-true _ _ (sym c.if-not-is_empty.ensures) in
+    high_beyond _ _ _ _ c.requires _ _ _ _ (nil_from_length _ (sym c.lows.ensures.len ∙ none)) (omega (arith, c.highs.ensures.len, c.highs.ensures.bound, c.if-highs-eq-HIGHS.false)) c.in_default.ensures
 
 pub returns : goal.returns
 returns c =
     let m = station_of c.args.self.last in
-    let none : length c.lows.result.now ≡ 0 = eqb-true _ _ (sym c.if-not-is-empty.ensures) in
+    let none : length c.lows.result.now ≡ 0 = eqb-true _ _ (sym c.if-not-is_empty.ensures) in
     let room : length m.highs < 8 = omega (arith, c.highs.ensures.len, c.highs.ensures.bound, c.if-highs-eq-HIGHS.false) in
     let made = c.in-Some.ensures in
-    let added = taken c.add-high.result c.add-high.ensures (λ _ full. omega (arith, room, full.0)) in
+    let added = taken c.add_high.result c.add_high.ensures (λ _ full. omega (arith, room, full.0)) in
     high_fits _ 0 _ _ c.requires _ _ _ _ _ (added.1 ∙ ap (with_high m) made.1) (nil_from_length _ (sym c.lows.ensures.len ∙ none)) room made.0

@@ -11,11 +11,11 @@ returns-then-len-eq-MASTERS c =
     let all = pushed c.args.self ms c.requires c.push.ensures.items in
     master_crowded _ _ _ _ c.requires _ (omega (arith, ap length all, length-map ms station_of, c.len.ensures.value, c.if-len-eq-MASTERS.true))
 
-pub returns-in-default : goal.returns-in-default
-returns-in-default c =
+pub returns-in_default : goal.returns-in_default
+returns-in_default c =
     let ms = items c.push.new.self in
     let all = pushed c.args.self ms c.requires c.push.ensures.items in
-    master_beyond _ _ _ _ c.requires _ (omega (arith, ap length all, length-map ms station_of, c.len.ensures.value, c.len.ensures.bound, c.if-len-eq-MASTERS.false)) c.in-default.ensures
+    master_beyond _ _ _ _ c.requires _ (omega (arith, ap length all, length-map ms station_of, c.len.ensures.value, c.len.ensures.bound, c.if-len-eq-MASTERS.false)) c.in_default.ensures
 
 pub returns : goal.returns
 returns c =

@@ -25,5 +25,5 @@ returns c =
     let all = pushed g ms c.requires c.push.ensures.items in
     let some : 1 ≤ length ms = omega (arith, ap length all, length-map ms station_of, length_push (map station_of (items g.done)) (station_of g.last)) in
     let n = planned g.target (map station_of (items g.done) ++ station_of g.last ∷ []) in
-    subst (λ r. results.MatchResult r (λ p. records n ≡ records (net p)) (λ _. ⊥)) (sym c.ok-or.ensures.value)
+    subst (λ r. results.MatchResult r (λ p. records n ≡ records (net p)) (λ _. ⊥)) (sym c.ok_or.ensures.value)
     (made c.of.result (NoMaster c.args.at) g.target ms n c.of.ensures c.requires.target some (ap (planned g.target) all))

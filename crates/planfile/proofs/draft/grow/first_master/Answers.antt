@@ -7,12 +7,12 @@ use Rattle.planfile.specs.Reading.Front.{ringed, growing}
 use Rattle.planfile.proofs.Growth.{first_misplaced, first_beyond, first_fits}
 use Rattle.planfile.proofs.draft.grow.first_master.Goals as goal
 
-pub returns-in-default : goal.returns-in-default
-returns-in-default c = first_misplaced _ _ _ c.in-default.not-Master
+pub returns-in_default : goal.returns-in_default
+returns-in_default c = first_misplaced _ _ _ c.in_default.not-Master
 
-pub returns-in-default-new : goal.returns-in-default-new
-returns-in-default-new c =
-    subst (λ r. Unfit (ringed c.args.target) r c.args.at (OutOfRange c.args.at)) (sym c.in-Master.is) (first_beyond _ _ _ c.in-default-new.ensures)
+pub returns-in_default-new : goal.returns-in_default-new
+returns-in_default-new c =
+    subst (λ r. Unfit (ringed c.args.target) r c.args.at (OutOfRange c.args.at)) (sym c.in-Master.is) (first_beyond _ _ _ c.in_default-new.ensures)
 
 pub returns : goal.returns
 returns c =

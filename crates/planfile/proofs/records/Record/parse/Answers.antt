@@ -9,19 +9,19 @@ whole : (xs : List ℕ) (n k : ℕ) (body : List ℕ → List ℕ) → length xs
 whole xs n k body l some e b = sym (headed xs n k l some e ∙ ap (λ ys. k ∷ ys) (b ∙ ap body (drop_all n xs (omega arith))))
 
 pub returns-in-1-eq5 : goal.returns-in-1-eq5
-returns-in-1-eq5 c = whole c.args.bytes.now 5 1 (λ ys. four c.four-at.result ++ ys) (search rules) (omega arith) (search rules) c.four-at.ensures
+returns-in-1-eq5 c = whole c.args.bytes.now 5 1 (λ ys. four c.four_at.result ++ ys) (search rules) (omega arith) (search rules) c.four_at.ensures
 
 pub returns-in-2-eq3 : goal.returns-in-2-eq3
-returns-in-2-eq3 c = whole c.args.bytes.now 3 2 (λ ys. two c.two-at.result ++ ys) (search rules) (omega arith) (search rules) c.two-at.ensures
+returns-in-2-eq3 c = whole c.args.bytes.now 3 2 (λ ys. two c.two_at.result ++ ys) (search rules) (omega arith) (search rules) c.two_at.ensures
 
 pub returns-in-3-eq11 : goal.returns-in-3-eq11
 returns-in-3-eq11 c =
-    let cycle = two c.two-at-in-3-eq11.result in
-    let deadline = four c.four-at-in-3-eq11.result in
-    let generation = two c.two-at-in-3-eq11-2.result in
-    let delivery = two c.two-at-in-3-eq11-3.result in
+    let cycle = two c.two_at-in-3-eq11.result in
+    let deadline = four c.four_at-in-3-eq11.result in
+    let generation = two c.two_at-in-3-eq11-2.result in
+    let delivery = two c.two_at-in-3-eq11-3.result in
     whole c.args.bytes.now 11 3 (λ ys. cycle ++ (deadline ++ (generation ++ (delivery ++ ys)))) (search rules) (omega arith) (search rules)
-    (c.two-at-in-3-eq11.ensures ∙ ap (λ ys. cycle ++ ys) (c.four-at-in-3-eq11.ensures ∙ ap (λ ys. deadline ++ ys) (c.two-at-in-3-eq11-2.ensures ∙ ap (λ ys. generation ++ ys) c.two-at-in-3-eq11-3.ensures)))
+    (c.two_at-in-3-eq11.ensures ∙ ap (λ ys. cycle ++ ys) (c.four_at-in-3-eq11.ensures ∙ ap (λ ys. deadline ++ ys) (c.two_at-in-3-eq11-2.ensures ∙ ap (λ ys. generation ++ ys) c.two_at-in-3-eq11-3.ensures)))
 
 pub returns-in-4-eq3 : goal.returns-in-4-eq3
-returns-in-4-eq3 c = whole c.args.bytes.now 3 4 (λ ys. two c.two-at-in-4-eq3.result ++ ys) (search rules) (omega arith) (search rules) c.two-at-in-4-eq3.ensures
+returns-in-4-eq3 c = whole c.args.bytes.now 3 4 (λ ys. two c.two_at-in-4-eq3.result ++ ys) (search rules) (omega arith) (search rules) c.two_at-in-4-eq3.ensures

@@ -11,22 +11,22 @@ use Rattle.planfile.proofs.writing.MasterEncode.put.Goals as goal
 own : (out now : List ℕ) (n hop : ℕ) → now ≡ laid (framed (2 ∷ two n)) out → n ≡ hop → now ≡ laid (record_bytes (Master hop)) out
 own out now n hop e is = e ∙ ap (λ h. laid (record_bytes (Master h)) out) is
 
-pub put-streams-requires : goal.put-streams-requires
-put-streams-requires c =
+pub put_streams-requires : goal.put_streams-requires
+put_streams-requires c =
     let m = station_of c.args.self.now in
-    room_second _ (record_bytes (Master m.hop)) _ _ (station_parts m) c.requires _ _ c.put-short-at.ensures.value (own c.args.out.now _ c.hop.result m.hop c.put-short-at.ensures.bytes c.hop.ensures)
+    room_second _ (record_bytes (Master m.hop)) _ _ (station_parts m) c.requires _ _ c.put_short-at.ensures.value (own c.args.out.now _ c.hop.result m.hop c.put_short-at.ensures.bytes c.hop.ensures)
 
-pub overflow-add-result : goal.overflow-add-result
-overflow-add-result c =
+pub overflow_add-result : goal.overflow_add-result
+overflow_add-result c =
     let m = station_of c.args.self.now in
-    let fits = sum_fits _ (record_bytes (Master m.hop)) _ _ (station_parts m) c.requires _ _ c.put-short-at.ensures.value (own c.args.out.now _ c.hop.result m.hop c.put-short-at.ensures.bytes c.hop.ensures) _ _ c.put-streams.ensures.value c.put-streams.ensures.bytes in
-    omega (arith, fits, c.well-formed)
+    let fits = sum_fits _ (record_bytes (Master m.hop)) _ _ (station_parts m) c.requires _ _ c.put_short-at.ensures.value (own c.args.out.now _ c.hop.result m.hop c.put_short-at.ensures.bytes c.hop.ensures) _ _ c.put_streams.ensures.value c.put_streams.ensures.bytes in
+    omega (arith, fits, c.well_formed)
 
 pub returns : goal.returns
 returns c =
     let m = station_of c.args.self.now in
-    let front = own c.args.out.now _ c.hop.result m.hop c.put-short-at.ensures.bytes c.hop.ensures in
+    let front = own c.args.out.now _ c.hop.result m.hop c.put_short-at.ensures.bytes c.hop.ensures in
     record {
-      value = sum_both _ (record_bytes (Master m.hop)) _ _ (station_parts m) c.requires _ _ c.put-short-at.ensures.value front _ _ c.put-streams.ensures.value c.put-streams.ensures.bytes;
-      bytes = laid_both _ (record_bytes (Master m.hop)) _ _ (station_parts m) c.requires _ _ c.put-short-at.ensures.value front _ _ c.put-streams.ensures.value c.put-streams.ensures.bytes;
+      value = sum_both _ (record_bytes (Master m.hop)) _ _ (station_parts m) c.requires _ _ c.put_short-at.ensures.value front _ _ c.put_streams.ensures.value c.put_streams.ensures.bytes;
+      bytes = laid_both _ (record_bytes (Master m.hop)) _ _ (station_parts m) c.requires _ _ c.put_short-at.ensures.value front _ _ c.put_streams.ensures.value c.put_streams.ensures.bytes;
     }
