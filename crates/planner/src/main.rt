@@ -10,17 +10,18 @@ use refusal::Refusal;
 use std::alloc::{AllocError, Global};
 use std::fmt::Write;
 use std::io::ErrorKind;
+use std::process::ExitCode;
 use std::{env, fs, io};
 
 #[cfg(test)]
 mod tests;
 
-fn main(rt: HostRuntime) -> anyhow::Result<()> {
-    let ended = run(&rt);
-    if let Err(e) = &ended {
-        eprintln!(rt; "planner: {e}")?;
+fn main(rt: HostRuntime) -> ExitCode {
+    if let Err(e) = run(&rt) {
+        let _ = eprintln!(rt; "planner: {e}");
+        return ExitCode::FAILURE;
     }
-    ended
+    ExitCode::SUCCESS
 }
 
 fn run(rt: &HostRuntime) -> anyhow::Result<()> {
