@@ -1,5 +1,5 @@
 -- One record more behind a plan in the making: what it takes to fit, and what it cannot be.
-use Rattle.std.proofs.Common.{◌≡◌, ℕ, ◌+◌, ◌<◌, ◌≤◌, List, [], ◌∷◌, ◌++◌, map, length, take, Ok, Err, Result, sym, refl, ap, subst, arith, MatchResult}
+use Rattle.std.proofs.Common.{◌≡◌, ℕ, ◌<◌, ◌≤◌, List, [], ◌∷◌, ◌++◌, map, length, take, Ok, Err, Result, sym, refl, ap, subst, arith, MatchResult}
 use Rattle.std.proofs.lemmas.List.{length_push}
 use Rattle.refusal.specs.declared.Refusal.TheVariants.{BadRecord, TooMany, OutOfRange}
 use Rattle.plan.specs.Net.{Station, times, bare, with_high, with_low, TargetInRange, HopInRange, CycleInRange, StreamInRange}
