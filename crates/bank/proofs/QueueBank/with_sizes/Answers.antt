@@ -3,8 +3,8 @@ use Rattle.bank.specs.Eight.{size_at}
 use Rattle.bank.proofs.Shapings.{one_more}
 use Rattle.bank.proofs.QueueBank.with_sizes.Goals as goal
 
-pub returns-in-default : goal.returns-in-default
-returns-in-default g c = record { master = suc c.loop-k.k; one = (omega arith, omega (arith, c.loop-k-test.true)); above = c.in-default.ensures }
+pub returns-in_default : goal.returns-in_default
+returns-in_default g c = record { master = suc c.loop-k.k; one = (omega arith, omega (arith, c.loop-k-test.true)); above = c.in_default.ensures }
 
 pub loop-k-preserved : goal.loop-k-preserved
 loop-k-preserved g c =

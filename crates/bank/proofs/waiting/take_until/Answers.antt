@@ -10,13 +10,13 @@ use Rattle.bank.proofs.waiting.take_until.Goals as goal
 pub loop-bank-init : goal.loop-bank-init
 loop-bank-init g c = passed none (omega arith) (λ w. w)
 
-pub overflow-add-takes : goal.overflow-add-takes
-overflow-add-takes g c =
+pub overflow_add-takes : goal.overflow_add-takes
+overflow_add-takes g c =
     let b = c.args.bank.now in
     let k = c.args.master in
     let i = c.args.stream in
-    let passed-by = draws_few g.B.Bank.meaning g.B.Bank.takes k i b c.loop-bank.takes c.loop-bank.bank c.loop-bank.invariant in
-    omega (arith, passed-by, left_few (g.B.Bank.meaning b k) ((g.met.B.Bank.lawful b).orderly k) i)
+    let passed_by = draws_few g.B.Bank.meaning g.B.Bank.takes k i b c.loop-bank.takes c.loop-bank.bank c.loop-bank.invariant in
+    omega (arith, passed_by, left_few (g.B.Bank.meaning b k) ((g.met.B.Bank.lawful b).orderly k) i)
 
 pub loop-bank-preserved : goal.loop-bank-preserved
 loop-bank-preserved g c =

@@ -20,11 +20,11 @@ newcomer c =
 added : (c : After-insert) → members c.insert.new.self ≡ with (members c.args.self.now.gathered) c.args.stream
 added c = let n = newcomer c in c.insert.ensures.within (n.low, omega (arith, n.high, c.args.self.now.size.range))
 
-pub invariant-of-self : goal.invariant-of-self
-invariant-of-self c =
+pub invariant_of-self : goal.invariant_of-self
+invariant_of-self c =
     let q = c.args.self.now in
     let a = subst (λ s. Apart (record { size = q.size.count; closed = members q.closed; gathered = s })) (sym (added c)) (put_apart (groups_of q) c.args.stream (apart q) (newcomer c)) in
-    (a.closed, (a.gathered, (a.once, tt)))
+    record { closing = a.closed; gathering = a.gathered; once = a.once }
 
 pub returns : goal.returns
 returns c =

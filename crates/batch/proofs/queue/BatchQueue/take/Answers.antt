@@ -8,16 +8,18 @@ use Rattle.batch.specs.Held.{apart}
 use Rattle.streams.proofs.Sets.{all_nobody, all_without}
 use Rattle.batch.proofs.queue.BatchQueue.take.Goals as goal
 
-pub invariant-of-self : goal.invariant-of-self
-invariant-of-self c =
+pub invariant_of-self : goal.invariant_of-self
+invariant_of-self c =
     let q = c.args.self.now in
     let a = subst (λ s. Apart (record { size = q.size.count; closed = s; gathered = members q.gathered })) (sym c.remove.ensures) (closed_apart (groups_of q) _ (apart q)) in
-    (a.closed, (a.gathered, (a.once, tt)))
+    record { closing = a.closed; gathering = a.gathered; once = a.once }
 
-pub invariant-of-self-2 : goal.invariant-of-self-2
-invariant-of-self-2 c =
+pub invariant_of-self-2 : goal.invariant_of-self-2
+invariant_of-self-2 c =
     let q = c.args.self.now in
-    let n = q.size.count in (
-      subst (AllAmong n) (sym c.remove-2.ensures) (all_without n _ _ q.gathering),
-      (subst (AllAmong n) (sym c.empty-self.ensures) (all_nobody n), (λ i _. ap (λ s. s i) c.empty-self.ensures, tt)),
-    )
+    let n = q.size.count in
+    record {
+      closing = subst (AllAmong n) (sym c.remove-2.ensures) (all_without n _ _ q.gathering);
+      gathering = subst (AllAmong n) (sym c.empty-self.ensures) (all_nobody n);
+      once = λ i _. ap (λ s. s i) c.empty-self.ensures;
+    }

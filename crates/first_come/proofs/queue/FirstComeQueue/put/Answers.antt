@@ -25,21 +25,18 @@ pushed c = let q = c.args.self.now in take_more_set q.order q.count c.args.strea
 pub bounds-self-self : goal.bounds-self-self
 bounds-self-self c = omega (arith, fits (goal.at.bounds-self-self c).Else-place-gt0, c.args.self.now.size.range)
 
-pub invariant-of-self : goal.invariant-of-self
-invariant-of-self c =
+pub invariant_of-self : goal.invariant_of-self
+invariant_of-self c =
     let q = c.args.self.now in
-    let h = (goal.at.invariant-of-self c).Else-place-gt0 in
+    let h = (goal.at.invariant_of-self c).Else-place-gt0 in
     let a = absent h in
-    let rest = take q.count q.order in (
-      length-set q.order q.count c.args.stream ∙ q.eight,
-      (
-        omega (arith, fits h),
-        (
-          ap (all_among q.size.count) (pushed h) ∙ all_among_push q.size.count c.args.stream rest a.low a.high q.streams,
-          (ap once (pushed h) ∙ once_push c.args.stream rest a.new q.single, tt),
-        ),
-      ),
-    )
+    let rest = take q.count q.order in
+    record {
+      eight = length-set q.order q.count c.args.stream ∙ q.eight;
+      few = omega (arith, fits h);
+      streams = ap (all_among q.size.count) (pushed h) ∙ all_among_push q.size.count c.args.stream rest a.low a.high q.streams;
+      single = ap once (pushed h) ∙ once_push c.args.stream rest a.new q.single;
+    }
 
 pub returns : goal.returns
 returns c =
