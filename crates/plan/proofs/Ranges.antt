@@ -1,6 +1,6 @@
 -- Every stream, master and plan that can exist keeps its ranges: each value carries its own.
 use Rattle.std.proofs.Common.{◌≡◌, ℕ, ◌≤◌, List, [], ◌∷◌, map, length, arith}
-use Rattle.std.specs.List.{AllByRecursion as All}
+use Rattle.std.specs.List.{AllByRecursion}
 use Rattle.std.proofs.lemmas.List.{length-map, length-take-le}
 use Rattle.bounded.specs.Items.{items}
 use Rattle.bounded.specs.declared.ArrayVec.{ArrayVec}
@@ -11,7 +11,7 @@ use Rattle.plan.specs.declared.LowStream.{LowStream}
 use Rattle.plan.specs.declared.Master.{Master}
 use Rattle.plan.specs.declared.Plan.{Plan}
 
-all_of : {X Y : Type 0} (f : X → Y) (P : Y → Type 0) → ((x : X) → P (f x)) → (xs : List X) → All P (map f xs)
+all_of : {X Y : Type 0} (f : X → Y) (P : Y → Type 0) → ((x : X) → P (f x)) → (xs : List X) → AllByRecursion P (map f xs)
 all_of f P h [] = tt
 all_of f P h (x ∷ xs) = (h x, all_of f P h xs)
 

@@ -1,6 +1,6 @@
 -- A bus plan in plain numbers, its ranges, and its walk.
 use Rattle.std.specs.Prelude.{ℕ, ◌+◌, ◌≤◌, List, [], ◌∷◌, ◌++◌, length}
-use Rattle.std.specs.List.{AllByRecursion as All}
+use Rattle.std.specs.List.{AllByRecursion}
 
 -- a high stream: its longest cycle with all retries, its deadline, and the delays of generation and delivery
 pub record Stream : Type 0 where
@@ -65,15 +65,15 @@ pub record StationInRange (m : Station) : Type 0 where
   pub hop : HopInRange m.hop
   pub few_highs : length m.highs ≤ 8
   pub few_lows : length m.lows ≤ 4
-  pub each_high : All StreamInRange m.highs
-  pub each_low : All CycleInRange m.lows
+  pub each_high : AllByRecursion StreamInRange m.highs
+  pub each_low : AllByRecursion CycleInRange m.lows
 
 -- 1 to 8 masters
 pub record NetInRange (n : Net) : Type 0 where
   pub target : TargetInRange n.target
   pub some : 1 ≤ length n.masters
   pub few : length n.masters ≤ 8
-  pub each : All StationInRange n.masters
+  pub each : AllByRecursion StationInRange n.masters
 
 abbrev pub hops : List Station → ℕ
 hops [] = 0

@@ -1,6 +1,6 @@
 -- The records of a good front lead to it from the start, one by one. Where no further record goes_on, their bytes lead to no other front.
 use Rattle.std.proofs.Common.{◌≡◌, ℕ, ◌<◌, ◌≤◌, List, [], ◌∷◌, ◌++◌, map, length, drop, sym, refl, ap, ◌∙◌, subst, arith}
-use Rattle.std.specs.List.{flat_map, AllByRecursion as All}
+use Rattle.std.specs.List.{flat_map, AllByRecursion}
 use Rattle.std.proofs.lemmas.List.{append-nil, append_assoc, length-append, length_push}
 use Rattle.plan.specs.Net.{Stream, Station, bare, CycleInRange, StreamInRange, StationInRange}
 use Rattle.planfile.specs.declared.records.Record.{Record}
@@ -24,7 +24,7 @@ linked (more k c) d = more k (linked c d)
 -- streams of one kind, of which there are at most n
 module _ {X : Type 0} (at : List X → Front) (tells : X → Record) (P : X → Type 0) (n : ℕ)
     (step : (xs : List X) (x : X) → length (xs ++ x ∷ []) ≤ n → P x → Fits (at xs) (tells x) (at (xs ++ x ∷ []))) where
-  streams : (xs ys : List X) → length (xs ++ ys) ≤ n → All P ys → Chain (at xs) (map tells ys) (at (xs ++ ys))
+  streams : (xs ys : List X) → length (xs ++ ys) ≤ n → AllByRecursion P ys → Chain (at xs) (map tells ys) (at (xs ++ ys))
   streams xs [] few each = rw append-nil none
   streams xs (y ∷ ys) few each =
       let few-y : length (xs ++ y ∷ []) ≤ n = omega (arith, length_push xs y, length-append xs (y ∷ ys)) in
@@ -56,7 +56,7 @@ module _ (t : ℕ) (done : List Station) (few : length done < 8) where
 
 -- masters, up to m, behind those of `before`
 masters : (t : ℕ) (before : List Station) {f : Front} → ((h : ℕ) → Next f (Master h) (growing t before (bare h)))
-    → (done : List Station) (m : Station) → length (before ++ done) < 8 → All StationInRange done → StationInRange m
+    → (done : List Station) (m : Station) → length (before ++ done) < 8 → AllByRecursion StationInRange done → StationInRange m
     → Chain f (flat_map station_records (done ++ m ∷ [])) (growing t (before ++ done) m)
 masters t before next [] m few each k =
     let few-before : length before < 8 = rw append-nil at few in

@@ -1,6 +1,6 @@
 -- A record in range, which there is room for, keeps a front good.
 use Rattle.std.proofs.Common.{ℕ, ◌<◌, ◌≤◌, List, [], ◌∷◌, ◌++◌, length, arith}
-use Rattle.std.specs.List.{AllByRecursion as All}
+use Rattle.std.specs.List.{AllByRecursion}
 use Rattle.std.proofs.lemmas.List.{length_push}
 use Rattle.std.proofs.ByRecursion.{All-push}
 use Rattle.plan.specs.Net.{Stream, Station, times, bare, with_high, with_low, planned, TargetInRange, HopInRange, CycleInRange, StreamInRange, StationInRange, NetInRange}
@@ -11,11 +11,11 @@ use Rattle.planfile.specs.Reading.Next.{ring, first, master, high, low}
 -- what is in range in a plan whose last master is m
 pub record Parts (t : ℕ) (done : List Station) (m : Station) : Type 0 where
   pub target : TargetInRange t
-  pub each_done : All StationInRange done
+  pub each_done : AllByRecursion StationInRange done
   pub last : StationInRange m
   pub few : length done < 8
 
-all_from_push : {X : Type 0} (P : X → Type 0) (xs : List X) (x : X) → All P (xs ++ x ∷ []) → All P xs × P x
+all_from_push : {X : Type 0} (P : X → Type 0) (xs : List X) (x : X) → AllByRecursion P (xs ++ x ∷ []) → AllByRecursion P xs × P x
 all_from_push P [] x h = (tt, h.0)
 all_from_push P (y ∷ xs) x h = let k = all_from_push P xs x h.1 in ((h.0, k.0), k.1)
 
