@@ -108,7 +108,7 @@ pub struct QueueBank<Q> {
     queues: PerMaster<Q>,
 }
 
-// One value for each of the eight masters. (Eight fields, because the toolchain makes no proof
+// One value for each of the eight masters. (Eight fields, because an earlier toolchain made no proof
 // of an `impl Bank` for a type that holds an array of a type parameter.)
 #[derive(Clone, Copy)]
 struct PerMaster<T> {
