@@ -1,4 +1,4 @@
-use bank::{Bank, Queue, take_until};
+use bank::{Bank, take_until};
 use batch::BatchBank;
 use cyclic::CyclicBank;
 use first_come::FirstComeBank;

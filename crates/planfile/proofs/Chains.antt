@@ -1,4 +1,4 @@
--- The records of a good front lead to it from the start, one by one. Where no further record goes_on, their bytes lead to no other front.
+-- The records of a good front lead to it from the start, one by one. Where no further record goes on, their bytes lead to no other front.
 use Rattle.std.proofs.Common.{◌≡◌, ℕ, ◌<◌, ◌≤◌, List, [], ◌∷◌, ◌++◌, map, length, drop, sym, refl, ap, ◌∙◌, subst, arith}
 use Rattle.std.specs.List.{flat_map, AllByRecursion}
 use Rattle.std.proofs.lemmas.List.{append-nil, append_assoc, length-append, length_push}
