@@ -6,7 +6,7 @@ use Rattle.plan.specs.Net.{Stream, Station, bare, CycleInRange, StreamInRange, S
 use Rattle.planfile.specs.declared.records.Record.{Record}
 use Rattle.planfile.specs.declared.records.Record.TheVariants.{Master, Low}
 use Rattle.planfile.specs.Format.{record_bytes, high_record, station_records}
-use Rattle.planfile.specs.Reading.{Front, Next, Fits, Good, front_records, written}
+use Rattle.planfile.specs.Reading.{Front, Next, Fits, Taken, Good, front_records, written}
 use Rattle.planfile.specs.Reading.Front.{start, ringed, growing}
 use Rattle.planfile.specs.Reading.Next.{ring, first, master, high, low}
 use Rattle.planfile.proofs.Framing.{record_once}
@@ -75,17 +75,13 @@ chain (growing t done m) good =
     more record { next = ring; room = tt; range = p.target } (masters t [] (λ h. first) done m p.few p.each_done p.last)
 
 -- behind f, the bytes begin with a record that is taken
-pub record GoesOn (f : Front) (bytes : List ℕ) : Type 0 where
-  pub g : Front
-  pub r : Record
-  pub left : List ℕ
-  pub taken : Fits f r g
-  pub split : bytes ≡ record_bytes r ++ left
+abbrev pub GoesOn : Front → List ℕ → Type 0
+GoesOn f bytes = (g : Front) × (more : List ℕ) × Taken f bytes g more
 
 goes_on : {f g : Front} {r : Record} (rs : List Record) (bytes x : List ℕ) → Fits f r g → bytes ≡ flat_map record_bytes (r ∷ rs) ++ x → GoesOn f bytes
 goes_on {g = g} {r} rs bytes x k e =
     let xs : List ℕ = flat_map record_bytes rs in
-    record { g = g; r = r; left = xs ++ x; taken = k; split = e ∙ append_assoc (record_bytes r) xs x }
+    (g, xs ++ x, record { r = r; fits = k; split = e ∙ append_assoc (record_bytes r) xs x })
 
 same_step : (f g h : Front) (r s : Record) (x y : List ℕ) → Next f r g → Next f s h → record_bytes r ++ x ≡ record_bytes s ++ y → (g ≡ h) × (x ≡ y)
 same_step f g h r s x y n k e =

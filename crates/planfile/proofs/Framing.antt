@@ -19,7 +19,7 @@ told xs =
     let kind : ℕ = get_or xs 0 0 in
     cond (eqb kind 1) (Ring (long xs 1))
     (cond (eqb kind 2) (Master (word xs 1))
-    (cond (eqb kind 3) (High (word xs 1) (long xs 3) (word xs 7) (word xs 9))
+    (cond (eqb kind 3) (High record { cycle = word xs 1; deadline = long xs 3; generation = word xs 7; delivery = word xs 9 })
     (Low (word xs 1))))
 
 pub two_bytes : (n : ℕ) → n / 256 * 256 + n % 256 ≡ n
@@ -31,7 +31,7 @@ four_bytes n = omega arith
 told_contents : (r : Record) → told (contents r) ≡ r
 told_contents (Ring t) = ap Ring (four_bytes t)
 told_contents (Master h) = ap Master (two_bytes h)
-told_contents (High c d g v) = λ i. High (two_bytes c i) (four_bytes d i) (two_bytes g i) (two_bytes v i)
+told_contents (High s) = λ i. High record { cycle = two_bytes s.cycle i; deadline = four_bytes s.deadline i; generation = two_bytes s.generation i; delivery = two_bytes s.delivery i }
 told_contents (Low c) = ap Low (two_bytes c)
 
 pub contents_once : (r s : Record) → contents r ≡ contents s → r ≡ s

@@ -1,39 +1,38 @@
--- One step of reading: what becomes of the record at the place where a good front ends.
-use Rattle.std.proofs.Common.{◌≡◌, ℕ, ◌+◌, List, ◌++◌, length, drop, sym, ap, ◌∙◌, arith}
-use Rattle.std.proofs.lemmas.List.{append_assoc, length-append}
+-- The loop of reading: what becomes of a file of which a good front and the rest are known.
+use Rattle.std.proofs.Common.{◌≡◌, ℕ, ◌-◌, List, [], ◌++◌, length, sym, ap, ◌∙◌, subst, arith}
+use Rattle.std.proofs.lemmas.List.{append_assoc, append-nil, length-append, nil_from_length}
 use Rattle.refusal.specs.declared.Refusal.{Refusal}
-use Rattle.refusal.specs.declared.Refusal.TheVariants.{BadRecord, CutShort}
-use Rattle.planfile.specs.declared.records.Record.{Record}
-use Rattle.planfile.specs.Format.{contents, framed, record_bytes}
-use Rattle.planfile.specs.Reading.{Front, Fits, Unfit, Cut, Behind, Refused, written}
-use Rattle.planfile.specs.Reading.Stuck.{cut, unknown, unfit}
+use Rattle.refusal.specs.declared.Refusal.TheVariants.{NoMaster}
+use Rattle.plan.specs.Net.{Net}
+use Rattle.planfile.specs.Format.{encoded, file_of, record_bytes, records}
+use Rattle.planfile.specs.Reading.{Front, Taken, Masterless, Behind, Refused, front_records, written}
+use Rattle.planfile.specs.Reading.Stuck.{ended}
 use Rattle.planfile.specs.Reading.Refused.{stuck}
 use Rattle.planfile.proofs.Steps.{next_written}
 use Rattle.planfile.proofs.Goods.{next_good}
 
-module _ (file : List ℕ) (f : Front) (at : ℕ) (b : Behind file f (drop at file) at) where
-  pub cut_refused : Cut (drop at file) → Refused file (CutShort at)
-  cut_refused k = stuck f (drop at file) at b (cut k)
+-- the bytes that are left stand at the end of the file
+pub at_end : {file rest : List ℕ} {f : Front} {at : ℕ} → Behind file f rest at → at ≡ length file - length rest
+at_end {rest = rest} {f} b = omega (arith, b.place, ap length b.split, length-append (written f) rest)
 
-  -- a whole record with the contents c stands there
-  module _ (c : List ℕ) (whole : drop at file ≡ framed c ++ drop (at + 2 + length c) file) where
-    pub unknown_refused : ((r : Record) → contents r ≡ c → ⊥) → Refused file (BadRecord at)
-    unknown_refused other = stuck f (drop at file) at b (unknown c (drop (at + 2 + length c) file) whole other)
+-- a record is taken
+pub goes_on : {file rest more : List ℕ} {f g : Front} {at : ℕ} → Behind file f rest at → Taken f rest g more → Behind file g more (length file - length more)
+goes_on {file} {rest} {more} {f} {g} b k =
+    let longer : written g ≡ written f ++ record_bytes k.r = next_written f g k.r k.fits.next in
+    let split : file ≡ written g ++ more =
+        b.split ∙ ap (λ x. written f ++ x) k.split ∙ sym (append_assoc (written f) (record_bytes k.r) more) ∙ ap (λ x. x ++ more) (sym longer) in
+    record {
+      good = next_good f g k.r b.good k.fits.next k.fits.room k.fits.range;
+      split = split;
+      place = omega (arith, ap length split, length-append (written g) more);
+    }
 
-    module _ (r : Record) (is : contents r ≡ c) where
-      told : drop at file ≡ record_bytes r ++ drop (at + 2 + length c) file
-      told = whole ∙ ap (λ x. framed x ++ drop (at + 2 + length c) file) (sym is)
+-- the file ends
+module _ {file rest : List ℕ} {f : Front} {at : ℕ} (b : Behind file f rest at) (end : length rest ≡ 0) where
+  pub whole : (n : Net) → front_records f ≡ records n → file ≡ encoded n
+  whole n e = b.split ∙ ap (λ xs. written f ++ xs) (nil_from_length rest end) ∙ append-nil (written f) ∙ ap file_of e
 
-      pub unfit_refused : (e : Refusal) → Unfit f r at e → Refused file e
-      unfit_refused e u = stuck f (drop at file) at b (unfit r (drop (at + 2 + length c) file) told u)
-
-      pub fits_goes_on : (g : Front) → Fits f r g → Behind file g (drop (at + 2 + length c) file) (at + 2 + length c)
-      fits_goes_on g k =
-          let rest = drop (at + 2 + length c) file in
-          let more : written g ≡ written f ++ record_bytes r = next_written f g r k.next in
-          let joins : written f ++ (record_bytes r ++ rest) ≡ written g ++ rest = sym (append_assoc (written f) (record_bytes r) rest) ∙ ap (λ x. x ++ rest) (sym more) in
-          record {
-            good = next_good f g r b.good k.next k.room k.range;
-            split = b.split ∙ ap (λ x. written f ++ x) told ∙ joins;
-            place = omega (arith, b.place, ap length more, length-append (written f) (record_bytes r), ap length is);
-          }
+  pub no_master : (e : Refusal) → e ≡ NoMaster (length file) → Masterless f → Refused file e
+  no_master e is none =
+      let place : at ≡ length file = omega (arith, end, at_end b) in
+      subst (λ x. Refused file x) (sym (is ∙ ap NoMaster (sym place))) (stuck f rest at b (ended (nil_from_length rest end) none))

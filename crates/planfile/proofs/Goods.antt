@@ -3,8 +3,9 @@ use Rattle.std.proofs.Common.{ℕ, ◌<◌, ◌≤◌, List, [], ◌∷◌, ◌+
 use Rattle.std.specs.List.{AllByRecursion}
 use Rattle.std.proofs.lemmas.List.{length_push}
 use Rattle.std.proofs.ByRecursion.{All-push}
-use Rattle.plan.specs.Net.{Stream, Station, times, bare, with_high, with_low, planned, TargetInRange, HopInRange, CycleInRange, StreamInRange, StationInRange, NetInRange}
+use Rattle.plan.specs.Net.{Stream, Station, bare, with_high, with_low, planned, TargetInRange, HopInRange, CycleInRange, StreamInRange, StationInRange, NetInRange}
 use Rattle.planfile.specs.declared.records.Record.{Record}
+use Rattle.planfile.specs.Told.{told}
 use Rattle.planfile.specs.Reading.{Front, Next, Room, InRange, Good}
 use Rattle.planfile.specs.Reading.Next.{ring, first, master, high, low}
 
@@ -65,7 +66,5 @@ next_good f g r good ring room range = range
 next_good f g r good (first {t} {h}) room range = together t [] (bare h) record { target = good; each_done = tt; last = bare_in_range h range; few = room.0 }
 next_good f g r good (master {t} {h} {done} {m}) room range =
     together t (done ++ m ∷ []) (bare h) record { target = good.target; each_done = good.each; last = bare_in_range h range; few = room.0 }
-next_good f g r good (high {t} {c} {d} {g = y} {v} {done} {m} e) room range =
-    let s : Stream = times c d y v in
-    instead t done m (with_high m s) (high_in_range m s room.1 range) good
+next_good f g r good (high {t} {s} {done} {m} e) room range = instead t done m (with_high m (told s)) (high_in_range m (told s) room.1 range) good
 next_good f g r good (low {t} {c} {done} {m}) room range = instead t done m (with_low m c) (low_in_range m c room.2 range) good

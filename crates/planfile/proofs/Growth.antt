@@ -1,17 +1,25 @@
 -- One record more behind a plan in the making: what it takes to fit, and what it cannot be.
-use Rattle.std.proofs.Common.{◌≡◌, ℕ, ◌<◌, ◌≤◌, List, [], ◌∷◌, ◌++◌, map, length, take, Ok, Err, Result, sym, refl, ap, subst, arith, MatchResult}
-use Rattle.std.proofs.lemmas.List.{length_push}
+use Rattle.std.proofs.Common.{◌≡◌, ℕ, ◌<◌, ◌≤◌, List, [], ◌∷◌, ◌++◌, map, length, take, Ok, Err, Result, None, Option, sym, refl, ap, subst, arith, MatchResult}
+use Rattle.std.proofs.lemmas.List.{length_push, length-map, nil_from_length}
+use Rattle.std.specs.Option.{MatchOption, ok_or}
+use Rattle.std.specs.Result.{IsErrAnd}
+use Rattle.std.proofs.lemmas.Option.{MatchOption-at_none}
+use Rattle.std.proofs.lemmas.Result.{err_from_is_err_and}
+use Rattle.refusal.specs.declared.Refusal.{Refusal}
 use Rattle.refusal.specs.declared.Refusal.TheVariants.{BadRecord, TooMany, OutOfRange}
-use Rattle.plan.specs.Net.{Station, times, bare, with_high, with_low, TargetInRange, HopInRange, CycleInRange, StreamInRange}
+use Rattle.plan.specs.Net.{Station, bare, with_high, with_low, TargetInRange, HopInRange, CycleInRange, StreamInRange}
 use Rattle.bounded.specs.Items.{items}
 use Rattle.bounded.proofs.Pushes.{shows_push}
 use Rattle.plan.specs.Views.{station_of}
 use Rattle.plan.specs.declared.Master as plan
+use Rattle.planfile.specs.Told.{told}
+use Rattle.planfile.specs.declared.target.Times.{Times}
+use Rattle.planfile.specs.declared.draft.Draft.{Draft}
 use Rattle.planfile.specs.declared.draft.Growing.{Growing}
-use Rattle.planfile.specs.Drafts.{grown}
+use Rattle.planfile.specs.Drafts.{Grows, grown}
 use Rattle.planfile.specs.declared.records.Record.{Record}
 use Rattle.planfile.specs.declared.records.Record.TheVariants.{Ring, Master, High, Low}
-use Rattle.planfile.specs.Reading.{Front, Next, Room, Good, Fits, Unfit}
+use Rattle.planfile.specs.Reading.{Front, Next, Room, Fits, Unfit}
 use Rattle.planfile.specs.Reading.Front.{start, ringed, growing}
 use Rattle.planfile.specs.Reading.Next.{ring, first, master, high, low}
 use Rattle.planfile.specs.Reading.Unfit.{misplaced, crowded, beyond}
@@ -21,6 +29,17 @@ pub taken : {X Y S : Type 0} {Q : Y → Type 0} (r : Result X Y) → MatchResult
 taken (Ok x) s q = s
 taken (Err y) s q = absurd (q y s)
 
+-- where a `?` ends the function
+pub handed_on : {T : Type 0} (P : T → Type 0) (Q : Refusal → Type 0) (out : Result T Refusal) (d : Refusal) → IsErrAnd out (λ e. e ≡ d) → Q d → MatchResult out P Q
+handed_on P Q out d ends q = let p = err_from_is_err_and out ends in rw (p.1, p.2) q
+
+-- where an `o.ok_or(e)?` does
+pub none_handed_on : {T X N : Type 0} (P : T → Type 0) (Q : Refusal → Type 0) (out : Result T Refusal) (S : X → Type 0) {o : Option X} {d e : Refusal}
+    → IsErrAnd out (λ x. x ≡ d) → o ≡ None → Err d ≡ ok_or o e → MatchOption o N S → (N → Q e) → MatchResult out P Q
+none_handed_on {N = N} P Q out S {o} {d} {e} ends none value is q =
+    let same : e ≡ d = grind arith in
+    handed_on P Q out d ends (subst Q same (q (MatchOption-at_none N S none is)))
+
 -- only the ring record may come first, and only then
 pub start_misplaced : (r : Record) (at : ℕ) → ((t : ℕ) → r ≡ Ring t → ⊥) → Unfit start r at (BadRecord at)
 start_misplaced r at other = misplaced (none r other)
@@ -28,7 +47,7 @@ start_misplaced r at other = misplaced (none r other)
     none : (r : Record) → ((t : ℕ) → r ≡ Ring t → ⊥) → (f : Front) → Next start r f → ⊥
     none (Ring t) o f ring = o t refl
     none (Master h) o f n = elim n [ ]
-    none (High c d g v) o f n = elim n [ ]
+    none (High s) o f n = elim n [ ]
     none (Low c) o f n = elim n [ ]
 
 pub first_misplaced : (t : ℕ) (r : Record) (at : ℕ) → ((h : ℕ) → r ≡ Master h → ⊥) → Unfit (ringed t) r at (BadRecord at)
@@ -37,8 +56,14 @@ first_misplaced t r at other = misplaced (none r other)
     none : (r : Record) → ((h : ℕ) → r ≡ Master h → ⊥) → (f : Front) → Next (ringed t) r f → ⊥
     none (Ring t) o f n = elim n [ ]
     none (Master h) o f first = o h refl
-    none (High c d g v) o f n = elim n [ ]
+    none (High s) o f n = elim n [ ]
     none (Low c) o f n = elim n [ ]
+
+pub ring_misplaced : (t at : ℕ) (done : List Station) (m : Station) (s : ℕ) → Unfit (growing t done m) (Ring s) at (BadRecord at)
+ring_misplaced t at done m s = misplaced never
+  where
+    never : (f : Front) → Next (growing t done m) (Ring s) f → ⊥
+    never f n = elim n [ ]
 
 pub ring_beyond : (t at : ℕ) → (TargetInRange t → ⊥) → Unfit start (Ring t) at (OutOfRange at)
 ring_beyond t at off = beyond _ ring tt off
@@ -54,16 +79,7 @@ first_fits t h done m d e range =
     let made : growing t [] (bare h) ≡ growing t done m = λ i. growing t (sym d i) (sym e i) in
     subst (λ g. Fits (ringed t) (Master h) g) made record { next = first; room = (omega arith, omega arith, omega arith); range = range }
 
-module _ (t at : ℕ) (done : List Station) (m : Station) (good : Good (growing t done m)) where
-  pub few_done : length done < 8
-  few_done = omega (arith, good.few, length_push done m)
-
-  pub ring_misplaced : (s : ℕ) → Unfit (growing t done m) (Ring s) at (BadRecord at)
-  ring_misplaced s = misplaced never
-    where
-      never : (f : Front) → Next (growing t done m) (Ring s) f → ⊥
-      never f n = elim n [ ]
-
+module _ (t at : ℕ) (done : List Station) (m : Station) (few : length done < 8) where
   pub master_crowded : (h : ℕ) → 8 ≤ length (done ++ m ∷ []) → Unfit (growing t done m) (Master h) at (TooMany at)
   master_crowded h full = crowded _ master (λ room. omega (arith, room.0))
 
@@ -77,44 +93,47 @@ module _ (t at : ℕ) (done : List Station) (m : Station) (good : Good (growing 
     range = range;
   }
 
-  module _ (c d g v : ℕ) where
-    out_of_order : (m.lows ≡ [] → ⊥) → (f : Front) → Next (growing t done m) (High c d g v) f → ⊥
-    out_of_order some f (high none) = some none
-
-    pub high_misplaced : 0 < length m.lows → Unfit (growing t done m) (High c d g v) at (BadRecord at)
-    high_misplaced some = misplaced (out_of_order (λ none. omega (arith, some, ap length none)))
-
-    pub high_crowded : m.lows ≡ [] → 8 ≤ length m.highs → Unfit (growing t done m) (High c d g v) at (TooMany at)
-    high_crowded none full = crowded _ (high none) (λ room. omega (arith, room.1, length_push m.highs (times c d g v)))
-
-    -- room for one more high stream
-    high_room : m.lows ≡ [] → length m.highs < 8 → Room (growing t done (with_high m (times c d g v)))
-    high_room none room = (few_done, omega (arith, length_push m.highs (times c d g v)), good_lows)
+  module _ (s : Times) where
+    pub high_misplaced : 0 < length m.lows → Unfit (growing t done m) (High s) at (BadRecord at)
+    high_misplaced some = misplaced out_of_order
       where
-        good_lows : length m.lows ≤ 4
-        good_lows = omega (arith, ap length none)
+        out_of_order : (f : Front) → Next (growing t done m) (High s) f → ⊥
+        out_of_order f (high none) = omega (arith, some, ap length none)
 
-    pub high_beyond : m.lows ≡ [] → length m.highs < 8 → (StreamInRange (times c d g v) → ⊥) → Unfit (growing t done m) (High c d g v) at (OutOfRange at)
-    high_beyond none room off = beyond _ (high none) (high_room none room) off
+    module _ (none : length m.lows ≡ 0) where
+      pub high_crowded : 8 ≤ length m.highs → Unfit (growing t done m) (High s) at (TooMany at)
+      high_crowded full = crowded _ (high (nil_from_length m.lows none)) (λ room. omega (arith, room.1, length_push m.highs (told s)))
 
-    pub high_fits : (m' : Station) → m' ≡ with_high m (times c d g v) → m.lows ≡ [] → length m.highs < 8 → StreamInRange (times c d g v) → Fits (growing t done m) (High c d g v) (growing t done m')
-    high_fits m' e none room range =
-        subst (λ x. Fits (growing t done m) (High c d g v) (growing t done x)) (sym e) record { next = high none; room = high_room none room; range = range }
+      -- room for one more high stream
+      high_room : length m.highs < 8 → Room (growing t done (with_high m (told s)))
+      high_room room = (few, omega (arith, length_push m.highs (told s)), omega arith)
+
+      pub high_beyond : length m.highs < 8 → (StreamInRange (told s) → ⊥) → Unfit (growing t done m) (High s) at (OutOfRange at)
+      high_beyond room off = beyond _ (high (nil_from_length m.lows none)) (high_room room) off
+
+      pub high_fits : (m' : Station) → m' ≡ with_high m (told s) → length m.highs < 8 → StreamInRange (told s) → Fits (growing t done m) (High s) (growing t done m')
+      high_fits m' e room range =
+          subst (λ x. Fits (growing t done m) (High s) (growing t done x)) (sym e)
+          record { next = high (nil_from_length m.lows none); room = high_room room; range = range }
 
   module _ (c : ℕ) where
     pub low_crowded : 4 ≤ length m.lows → Unfit (growing t done m) (Low c) at (TooMany at)
     low_crowded full = crowded _ low (λ room. omega (arith, room.2, length_push m.lows c))
 
     low_room : length m.highs ≤ 8 → length m.lows < 4 → Room (growing t done (with_low m c))
-    low_room few room = (few_done, few, omega (arith, length_push m.lows c))
+    low_room few_highs room = (few, few_highs, omega (arith, length_push m.lows c))
 
     pub low_beyond : length m.highs ≤ 8 → length m.lows < 4 → (CycleInRange c → ⊥) → Unfit (growing t done m) (Low c) at (OutOfRange at)
-    low_beyond few room off = beyond _ low (low_room few room) off
+    low_beyond few_highs room off = beyond _ low (low_room few_highs room) off
 
     pub low_fits : (m' : Station) → m' ≡ with_low m c → length m.highs ≤ 8 → length m.lows < 4 → CycleInRange c → Fits (growing t done m) (Low c) (growing t done m')
-    low_fits m' e few room range =
-        subst (λ x. Fits (growing t done m) (Low c) (growing t done x)) (sym e) record { next = low; room = low_room few room; range = range }
+    low_fits m' e few_highs room range =
+        subst (λ x. Fits (growing t done m) (Low c) (growing t done x)) (sym e) record { next = low; room = low_room few_highs room; range = range }
 
--- the masters of a plan in the making, with the last one pushed
-pub pushed : (g : Growing) (ms : List plan.Master) → Good (grown g) → ms ≡ take 8 (items g.done ++ g.last ∷ []) → map station_of ms ≡ map station_of (items g.done) ++ station_of g.last ∷ []
-pushed g ms good e = shows_push station_of 8 (items g.done) ms g.last e (few_done g.target 0 (map station_of (items g.done)) (station_of g.last) good)
+module _ (g : Growing) where
+  pub few_done : length (map station_of (items g.done)) < 8
+  few_done = omega (arith, length-map (items g.done) station_of, g.room)
+
+  -- its masters, with the last one pushed
+  pub pushed : (ms : List plan.Master) → ms ≡ take 8 (items g.done ++ g.last ∷ []) → map station_of ms ≡ map station_of (items g.done) ++ station_of g.last ∷ []
+  pushed ms e = shows_push station_of 8 (items g.done) ms g.last e few_done

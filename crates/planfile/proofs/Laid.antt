@@ -4,40 +4,62 @@ use borrow.Rule.Slice.PartMut.{put_mid}
 use Rattle.std.proofs.lemmas.List.{append_assoc, append-nil, drop_all, drop_at, drop-drop, length-append, length-drop, take_at, take_rest}
 use Rattle.planfile.specs.Laying.{laid}
 
--- the rest of a buffer with bs in front is what lay behind
-pub rest_of : (bs buffer now : List ℕ) (n : ℕ) → n ≡ length bs → now ≡ laid bs buffer → take (length now - n) (drop n now) ≡ drop (length bs) buffer
-rest_of bs buffer now n l e = take_rest now n ∙ ap (drop n) e ∙ drop_at bs (drop (length bs) buffer) n (sym l)
+-- bs was written to the front of a buffer, up to the place n
+pub record Begun (bs buffer now : List ℕ) (n : ℕ) : Type 0 where
+  pub count : n ≡ length bs
+  pub bytes : now ≡ laid bs buffer
 
--- bs is in front of `now`; in the rest of it cs was put in front, which made `after` of it
-pub behind : (bs cs buffer now after : List ℕ) (n : ℕ) → n ≡ length bs → now ≡ laid bs buffer → after ≡ laid cs (take (length now - n) (drop n now)) → put_mid n (length now - n) now after ≡ laid (bs ++ cs) buffer
-behind bs cs buffer now after n l e w =
-    let front : take n now ≡ bs = ap (take n) e ∙ take_at bs (drop (length bs) buffer) n (sym l) in
-    let past : drop (length now - n) (drop n now) ≡ [] = drop_all (length now - n) (drop n now) (omega (arith, length-drop n now)) in
-    let part = rest_of bs buffer now n l e in
-    let skips = drop-drop (length cs) (length bs) buffer in
-    let long = length-append bs cs in
-    let wrote : after ≡ cs ++ drop (length bs + length cs) buffer = w ∙ ap (laid cs) part ∙ ap (λ xs. cs ++ xs) skips in
-    (λ i. front i ++ (wrote i ++ past i)) ∙ ap (λ xs. bs ++ xs) (append-nil (cs ++ drop (length bs + length cs) buffer))
-    ∙ sym (append_assoc bs cs (drop (length bs + length cs) buffer)) ∙ ap (λ m. (bs ++ cs) ++ drop m buffer) (sym long)
+-- what is lent on
+abbrev pub rest : List ℕ → ℕ → List ℕ
+rest now n = take (length now - n) (drop n now)
 
--- a buffer that has room for all of bs and cs, where bs is written first
-module _ (all bs cs buffer : List ℕ) (is : all ≡ bs ++ cs) (room : length all ≤ length buffer) where
-  long : length all ≡ length bs + length cs
-  long = ap length is ∙ length-append bs cs
+module _ {bs buffer now : List ℕ} {n : ℕ} (b : Begun bs buffer now n) where
+  rest_of : rest now n ≡ drop (length bs) buffer
+  rest_of = take_rest now n ∙ ap (drop n) b.bytes ∙ drop_at bs (drop (length bs) buffer) n (sym b.count)
 
-  pub room_first : length bs ≤ length buffer
-  room_first = omega (arith, long, room)
+  pub begun_fits : length bs ≤ length buffer → n ≤ length now
+  begun_fits room = omega (arith, b.count, ap length b.bytes, length-append bs (drop (length bs) buffer))
 
-  module _ (now : List ℕ) (n : ℕ) (l : n ≡ length bs) (e : now ≡ laid bs buffer) where
-    pub room_second : length cs ≤ length (take (length now - n) (drop n now))
-    room_second = omega (arith, long, room, ap length (rest_of bs buffer now n l e), length-drop (length bs) buffer)
+  module _ (cs : List ℕ) where
+    pub begun_room : length (bs ++ cs) ≤ length buffer → length cs ≤ length (rest now n)
+    begun_room room = omega (arith, ap length rest_of, length-drop (length bs) buffer, length-append bs cs)
 
-    module _ (after : List ℕ) (m : ℕ) (k : m ≡ length cs) (w : after ≡ laid cs (take (length now - n) (drop n now))) where
-      pub sum_fits : n + m ≤ length buffer
-      sum_fits = omega (arith, long, room, l, k)
+    -- cs was written to the front of the rest, which made `after` of it
+    pub begun_more : (after : List ℕ) (m : ℕ) → m ≡ length cs → after ≡ laid cs (rest now n) → Begun (bs ++ cs) buffer (put_mid n (length now - n) now after) (n + m)
+    begun_more after m k w =
+        let front : take n now ≡ bs = ap (take n) b.bytes ∙ take_at bs (drop (length bs) buffer) n (sym b.count) in
+        let past : drop (length now - n) (drop n now) ≡ [] = drop_all (length now - n) (drop n now) (omega (arith, length-drop n now)) in
+        let wrote : after ≡ cs ++ drop (length bs + length cs) buffer = w ∙ ap (laid cs) rest_of ∙ ap (λ xs. cs ++ xs) (drop-drop (length cs) (length bs) buffer) in
+        let long = length-append bs cs in
+        record {
+          count = omega (arith, long, b.count, k);
+          bytes =
+              (λ i. front i ++ (wrote i ++ past i)) ∙ ap (λ xs. bs ++ xs) (append-nil (cs ++ drop (length bs + length cs) buffer))
+              ∙ sym (append_assoc bs cs (drop (length bs + length cs) buffer)) ∙ ap (λ m. (bs ++ cs) ++ drop m buffer) (sym long);
+        }
 
-      pub sum_both : n + m ≡ length all
-      sum_both = omega (arith, long, l, k)
+-- what is to be written, in three parts
+pub record Parts (all bs cs ds : List ℕ) : Type 0 where
+  pub is : all ≡ bs ++ (cs ++ ds)
 
-      pub laid_both : put_mid n (length now - n) now after ≡ laid all buffer
-      laid_both = behind bs cs buffer now after n l e w ∙ ap (λ xs. laid xs buffer) (sym is)
+-- a buffer that has room for all parts, of which the first is written
+module _ {all bs cs ds buffer now : List ℕ} {n : ℕ} (parts : Parts all bs cs ds) (room : length all ≤ length buffer) (b : Begun bs buffer now n) where
+  long : length (bs ++ cs) + length ds ≤ length buffer
+  long = omega (arith, room, ap length parts.is, length-append bs (cs ++ ds), length-append cs ds, length-append bs cs)
+
+  pub second_room : length cs ≤ length (rest now n)
+  second_room = begun_room b cs (omega (arith, long))
+
+  module _ {after : List ℕ} {m : ℕ} (k : m ≡ length cs) (w : after ≡ laid cs (rest now n)) where
+    both : Begun (bs ++ cs) buffer (put_mid n (length now - n) now after) (n + m)
+    both = begun_more b cs after m k w
+
+    pub third_room : length ds ≤ length (rest (put_mid n (length now - n) now after) (n + m))
+    third_room = begun_room both ds (omega (arith, long, length-append (bs ++ cs) ds))
+
+    pub all_begun : {last : List ℕ} {l : ℕ} → l ≡ length ds → last ≡ laid ds (rest (put_mid n (length now - n) now after) (n + m))
+        → Begun all buffer (put_mid (n + m) (length (put_mid n (length now - n) now after) - (n + m)) (put_mid n (length now - n) now after) last) (n + m + l)
+    all_begun {last = last} {l} j v =
+        let whole = begun_more both ds last l j v in
+        let same : (bs ++ cs) ++ ds ≡ all = append_assoc bs cs ds ∙ sym parts.is in
+        record { count = whole.count ∙ ap length same; bytes = whole.bytes ∙ ap (λ xs. laid xs buffer) same }

@@ -1,4 +1,3 @@
-pub mod Numbers
 pub mod Growth
 pub mod Framing
 pub mod Steps

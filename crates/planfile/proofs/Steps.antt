@@ -1,9 +1,10 @@
 -- One more record makes one front of another, and adds its own bytes.
 use Rattle.std.proofs.Common.{◌≡◌, ℕ, List, [], ◌∷◌, ◌++◌, sym, refl, ap, ◌∙◌}
 use Rattle.std.proofs.lemmas.List.{append-nil, append_assoc, map_push, flat_map_more}
-use Rattle.plan.specs.Net.{Stream, Station, times, bare, with_high, with_low, planned}
+use Rattle.plan.specs.Net.{Stream, Station, bare, with_high, with_low, planned}
 use Rattle.planfile.specs.declared.records.Record.{Record}
 use Rattle.planfile.specs.declared.records.Record.TheVariants.{Ring, Low}
+use Rattle.planfile.specs.Told.{told}
 use Rattle.planfile.specs.Format.{record_bytes, high_record, station_records, records, file_of}
 use Rattle.planfile.specs.Reading.{Front, Next, front_records, written}
 use Rattle.planfile.specs.Reading.Next.{ring, first, master, high, low}
@@ -33,9 +34,7 @@ pub next_records : (f g : Front) (r : Record) → Next f r g → front_records g
 next_records f g r ring = refl
 next_records f g r first = refl
 next_records f g r (master {t} {h} {done} {m}) = sym (flat_map_more station_records (Ring t ∷ []) (done ++ m ∷ []) (bare h))
-next_records f g r (high {t} {c} {d} {g = y} {v} {done} {m} e) =
-    let s : Stream = times c d y v in
-    last_records t done m (with_high m s) r (high_records m s e)
+next_records f g r (high {t} {s} {done} {m} e) = last_records t done m (with_high m (told s)) r (high_records m (told s) e)
 next_records f g r (low {t} {c} {done} {m}) = last_records t done m (with_low m c) r (low_records m c)
 
 pub next_written : (f g : Front) (r : Record) → Next f r g → written g ≡ written f ++ record_bytes r

@@ -75,7 +75,7 @@ module _ (f g : Front) (r : Record) (rest more : List ℕ) (at : ℕ) where
   fits_not_stuck e n room range w (ended v h) = nil_not_whole rest (contents r) more v w
 
 pub stuck_not_going : (f : Front) (rest : List ℕ) (at : ℕ) (e : Refusal) → Stuck f rest at e → GoesOn f rest → ⊥
-stuck_not_going f rest at e s k = fits_not_stuck f k.g k.r rest k.left at e k.taken.next k.taken.room k.taken.range k.split s
+stuck_not_going f rest at e s (g, more, k) = fits_not_stuck f g k.r rest more at e k.fits.next k.fits.room k.fits.range k.split s
 
 pub nil_not_going : (f : Front) → GoesOn f [] → ⊥
-nil_not_going f k = nil_not_whole [] (contents k.r) k.left refl k.split
+nil_not_going f (g, more, k) = nil_not_whole [] (contents k.r) more refl k.split

@@ -17,7 +17,7 @@ four n = (n / 16777216) ∷ (n / 65536 % 256) ∷ (n / 256 % 256) ∷ (n % 256) 
 abbrev pub contents : Record → List ℕ
 contents (Ring target) = 1 ∷ four target
 contents (Master hop) = 2 ∷ two hop
-contents (High cycle deadline generation delivery) = 3 ∷ (two cycle ++ (four deadline ++ (two generation ++ two delivery)))
+contents (High t) = 3 ∷ (two t.cycle ++ (four t.deadline ++ (two t.generation ++ two t.delivery)))
 contents (Low cycle) = 4 ∷ two cycle
 
 -- behind the length of what follows
@@ -28,7 +28,7 @@ abbrev pub record_bytes : Record → List ℕ
 record_bytes r = framed (contents r)
 
 abbrev pub high_record : Stream → Record
-high_record s = High s.cycle s.deadline s.generation s.delivery
+high_record s = High record { cycle = s.cycle; deadline = s.deadline; generation = s.generation; delivery = s.delivery }
 
 -- a master, then its high streams, then its low ones
 abbrev pub station_records : Station → List Record

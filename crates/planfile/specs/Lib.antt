@@ -1,3 +1,4 @@
+pub mod Told
 pub mod Format
 pub mod Reading
 pub mod Drafts

@@ -3,7 +3,9 @@
 use Rattle.std.specs.Prelude.{◌≡◌, ℕ, ◌+◌, ◌*◌, ◌<◌, ◌≤◌, ◌⊎◌, List, [], ◌∷◌, ◌++◌, length, ◌≢◌, slice_index}
 use Rattle.refusal.specs.declared.Refusal.{Refusal}
 use Rattle.refusal.specs.declared.Refusal.TheVariants.{BadVersion, CutShort, BadRecord, OutOfRange, TooMany, NoMaster}
-use Rattle.plan.specs.Net.{Station, times, bare, with_high, with_low, planned, TargetInRange, HopInRange, CycleInRange, StreamInRange, NetInRange}
+use Rattle.plan.specs.Net.{Station, bare, with_high, with_low, planned, TargetInRange, HopInRange, CycleInRange, StreamInRange, NetInRange}
+use Rattle.planfile.specs.Told.{told}
+use Rattle.planfile.specs.declared.target.Times.{Times}
 use Rattle.planfile.specs.declared.records.Record.{Record}
 use Rattle.planfile.specs.declared.records.Record.TheVariants.{Ring, Master, High, Low}
 use Rattle.planfile.specs.Format.{contents, framed, record_bytes, records, file_of}
@@ -20,7 +22,7 @@ pub data Next : Front → Record → Front → Type 0 where
   ring : {t : ℕ} → Next start (Ring t) (ringed t)
   first : {t h : ℕ} → Next (ringed t) (Master h) (growing t [] (bare h))
   master : {t h : ℕ} {done : List Station} {m : Station} → Next (growing t done m) (Master h) (growing t (done ++ m ∷ []) (bare h))
-  high : {t c d g v : ℕ} {done : List Station} {m : Station} → m.lows ≡ [] → Next (growing t done m) (High c d g v) (growing t done (with_high m (times c d g v)))
+  high : {t : ℕ} {s : Times} {done : List Station} {m : Station} → m.lows ≡ [] → Next (growing t done m) (High s) (growing t done (with_high m (told s)))
   low : {t c : ℕ} {done : List Station} {m : Station} → Next (growing t done m) (Low c) (growing t done (with_low m c))
 
 -- at most 8 masters, the last one counted with those that are done, and at most 8 high and 4 low streams of the last
@@ -32,7 +34,7 @@ Room (growing t done m) = (length done < 8) × (length m.highs ≤ 8) × (length
 abbrev pub InRange : Record → Type 0
 InRange (Ring t) = TargetInRange t
 InRange (Master h) = HopInRange h
-InRange (High c d g v) = StreamInRange (times c d g v)
+InRange (High s) = StreamInRange (told s)
 InRange (Low c) = CycleInRange c
 
 -- the record r may come next, and makes g of f within room and range
@@ -40,6 +42,12 @@ pub record Fits (f : Front) (r : Record) (g : Front) : Type 0 where
   pub next : Next f r g
   pub room : Room g
   pub range : InRange r
+
+-- the bytes begin with a whole record that makes g of the front f; `more` is left behind it
+pub record Taken (f : Front) (bytes : List ℕ) (g : Front) (more : List ℕ) : Type 0 where
+  pub r : Record
+  pub fits : Fits f r g
+  pub split : bytes ≡ record_bytes r ++ more
 
 -- a front whose numbers are all in range, with no more masters and streams than a plan has room for
 abbrev pub Good : Front → Type 0

@@ -1,4 +1,8 @@
 // What a reader has so far.
+ghost use Rattle.std.specs.Prelude.{◌<◌, length};
+ghost use Rattle.bounded.specs.Items.{items};
+
+use crate::target::Target;
 use bounded::ArrayVec;
 use plan::{MASTERS, Master};
 
@@ -7,9 +11,10 @@ mod grow;
 // A plan in the making: the masters that are done, and the last, to which streams may still come.
 #[derive(Clone, Copy)]
 pub struct Growing {
-    target: u32,
+    target: Target,
     done: ArrayVec<Master, MASTERS>,
     last: Master,
+    ghost room: { length (items done) < 8 },
 }
 
 #[derive(Clone, Copy)]
@@ -17,7 +22,7 @@ pub enum Draft {
     // nothing behind the version byte
     Start,
     // the ring record
-    Ring { target: u32 },
+    Ring { target: Target },
     // the ring record and at least one master
     Masters(Growing),
 }

@@ -1,10 +1,10 @@
 // The plan file: a version byte, then records, all numbers with the higher byte first.
 #![tactic(auto)]
 
-mod bytes;
 mod draft;
 mod reading;
 mod records;
+mod target;
 mod writing;
 
 pub use reading::read;

@@ -1,13 +1,12 @@
 // Reading a plan file, record by record.
-ghost use Rattle.std.specs.Prelude.{◌≡◌, ◌+◌, ◌<◌, ◌++◌, length, drop, Err, MatchResult};
+ghost use Rattle.std.specs.Prelude.{◌≡◌, ◌<◌, ◌++◌, length, Err, MatchResult};
 ghost use Rattle.plan.specs.Net.{Net, NetInRange};
 ghost use Rattle.plan.specs.Views.{net};
 ghost use Rattle.planfile.specs.Drafts.{front};
 ghost use Rattle.planfile.specs.Format.{encoded, framed};
-ghost use Rattle.planfile.specs.Reading.{Behind, Cut, Refused, Versioned};
+ghost use Rattle.planfile.specs.Reading.{Cut, Refused, Stuck, Taken, Versioned};
 
 use crate::VERSION;
-use crate::bytes::two_at;
 use crate::draft::Draft;
 use crate::records::Record;
 use plan::Plan;
@@ -22,41 +21,10 @@ pub fn read(file: &[u8]) -> Result<Plan, Refusal>
     ensures back { (q : Plan) → file.now ≡ encoded (net q) → MatchResult result (λ p. net p ≡ net q) (λ _. ⊥) }
     ensures refuses { (e : Refusal) → Refused file.now e → result ≡ Err e }
 {
-    if file.is_empty() || file[0] != VERSION {
+    let [VERSION, ..] = file else {
         return Err(Refusal::BadVersion);
-    }
-    read_records(file)
-}
-
-// The kind and body of the record at `at`, refused where it is cut short.
-fn contents_at(file: &[u8], at: usize) -> Result<&[u8], Refusal>
-    requires { at < length file.now }
-    ensures { MatchResult result (λ c. drop at file.now ≡ framed c.now ++ drop (at + 2 + length c.now) file.now) (λ e. (e ≡ Refusal.CutShort at) × Cut (drop at file.now)) }
-{
-    let left = file.len() - at;
-    if left < 2 {
-        return Err(Refusal::CutShort { at });
-    }
-    let announced = usize::from(two_at(file, at));
-    if left - 2 < announced {
-        return Err(Refusal::CutShort { at });
-    }
-    let begin = at + 2;
-    Ok(&file[begin..begin + announced])
-}
-
-// Takes the record at `at`: the draft that it makes, and where the next one begins.
-fn step(file: &[u8], draft: Draft, at: usize) -> Result<(Draft, usize), Refusal>
-    requires at_in_bounds { at < length file.now }
-    requires behind { Behind file.now (front draft) (drop at file.now) at }
-    ensures { MatchResult result (λ s. (at < s.1) × Behind file.now (front s.0) (drop s.1 file.now) s.1) (λ e. Refused file.now e) }
-{
-    let contents = contents_at(file, at)?;
-    let Some(next) = Record::parse(contents) else {
-        return Err(Refusal::BadRecord { at });
     };
-    let grown = draft.grow(next, at)?;
-    Ok((grown, at + 2 + contents.len()))
+    read_records(file)
 }
 
 // Reads the records behind the version byte.
@@ -65,9 +33,34 @@ fn read_records(file: &[u8]) -> Result<Plan, Refusal>
     ensures { MatchResult result (λ p. file.now ≡ encoded (net p)) (λ e. Refused file.now e) }
 {
     let mut draft = Draft::Start;
-    let mut at = 1;
-    while at < file.len() {
-        (draft, at) = step(file, draft, at)?;
+    let mut left = &file[1..];
+    while !left.is_empty() {
+        (draft, left) = step(draft, left, file.len() - left.len())?;
     }
-    draft.finish(at)
+    draft.finish(file.len())
+}
+
+// Takes the record that `left` begins with, at the place `at`: the draft that it makes, and what is
+// left behind it.
+fn step(draft: Draft, left: &[u8], at: usize) -> Result<(Draft, &[u8]), Refusal>
+    requires { 0 < length left.now }
+    ensures { MatchResult result (λ s. Taken (front draft) left.now (front s.0) s.1.now) (λ e. Stuck (front draft) left.now at e) }
+{
+    let (contents, left) = split_contents(left, at)?;
+    let next = Record::parse(contents).ok_or(Refusal::BadRecord { at })?;
+    Ok((draft.grow(next, at)?, left))
+}
+
+// The contents of the record that `left` begins with, at the place `at`, and what is left behind it;
+// refused where that record is cut short.
+fn split_contents(left: &[u8], at: usize) -> Result<(&[u8], &[u8]), Refusal>
+    requires { 0 < length left.now }
+    ensures { MatchResult result (λ p. left.now ≡ framed p.0.now ++ p.1.now) (λ e. (e ≡ Refusal.CutShort at) × Cut left.now) }
+{
+    let [high, low, rest @ ..] = left else {
+        return Err(Refusal::CutShort { at });
+    };
+    let announced = usize::from(u16::from_be_bytes([*high, *low]));
+    rest.split_at_checked(announced)
+        .ok_or(Refusal::CutShort { at })
 }

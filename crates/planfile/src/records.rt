@@ -1,8 +1,15 @@
 // A record of a plan file.
-ghost use Rattle.std.specs.Prelude.{◌≡◌, MatchOption, ◌≢◌};
-ghost use Rattle.planfile.specs.Format.{contents};
+ghost use Rattle.std.specs.Prelude.{◌≡◌, ◌+◌, ◌<◌, ◌≤◌, length, MatchOption, ◌≢◌};
+ghost use Rattle.planfile.specs.Format.{contents, framed, record_bytes};
+ghost use Rattle.planfile.specs.Laying.{laid};
 
-use crate::bytes::{four_at, two_at};
+use crate::target::Times;
+
+// The kinds of record.
+const RING: u8 = 1;
+const MASTER: u8 = 2;
+const HIGH: u8 = 3;
+const LOW: u8 = 4;
 
 // What a record tells, in plain numbers that may still be out of range.
 #[derive(Clone, Copy)]
@@ -13,12 +20,7 @@ pub enum Record {
     Master {
         hop: u16,
     },
-    High {
-        cycle: u16,
-        deadline: u32,
-        generation: u16,
-        delivery: u16,
-    },
+    High(Times),
     Low {
         cycle: u16,
     },
@@ -29,26 +31,64 @@ impl Record {
     pub fn parse(bytes: &[u8]) -> Option<Record>
         ensures { MatchOption result ((x : Record) → contents x ≢ bytes.now) (λ x. contents x ≡ bytes.now) }
     {
-        if bytes.is_empty() {
-            return None;
-        }
-        match (bytes[0], bytes.len()) {
-            (1, 5) => Some(Record::Ring {
-                target: four_at(bytes, 1),
+        match *bytes {
+            [RING, a, b, c, d] => Some(Record::Ring {
+                target: u32::from_be_bytes([a, b, c, d]),
             }),
-            (2, 3) => Some(Record::Master {
-                hop: two_at(bytes, 1),
+            [MASTER, a, b] => Some(Record::Master {
+                hop: u16::from_be_bytes([a, b]),
             }),
-            (3, 11) => Some(Record::High {
-                cycle: two_at(bytes, 1),
-                deadline: four_at(bytes, 3),
-                generation: two_at(bytes, 7),
-                delivery: two_at(bytes, 9),
-            }),
-            (4, 3) => Some(Record::Low {
-                cycle: two_at(bytes, 1),
+            [HIGH, c0, c1, d0, d1, d2, d3, g0, g1, v0, v1] => Some(Record::High(Times {
+                cycle: u16::from_be_bytes([c0, c1]),
+                deadline: u32::from_be_bytes([d0, d1, d2, d3]),
+                generation: u16::from_be_bytes([g0, g1]),
+                delivery: u16::from_be_bytes([v0, v1]),
+            })),
+            [LOW, a, b] => Some(Record::Low {
+                cycle: u16::from_be_bytes([a, b]),
             }),
             _ => None,
         }
     }
+
+    // Puts the record in front; the answer is how many bytes it has.
+    pub fn put(self, out: &mut [u8]) -> usize
+        requires { length (record_bytes self) ≤ length out.old }
+        ensures value { result ≡ length (record_bytes self) }
+        ensures bytes { out.new ≡ laid (record_bytes self) out.old }
+    {
+        match self {
+            Record::Ring { target } => {
+                let [a, b, c, d] = target.to_be_bytes();
+                put_framed(out, [RING, a, b, c, d])
+            }
+            Record::Master { hop } => {
+                let [a, b] = hop.to_be_bytes();
+                put_framed(out, [MASTER, a, b])
+            }
+            Record::High(times) => {
+                let [c0, c1] = times.cycle.to_be_bytes();
+                let [d0, d1, d2, d3] = times.deadline.to_be_bytes();
+                let [g0, g1] = times.generation.to_be_bytes();
+                let [v0, v1] = times.delivery.to_be_bytes();
+                put_framed(out, [HIGH, c0, c1, d0, d1, d2, d3, g0, g1, v0, v1])
+            }
+            Record::Low { cycle } => {
+                let [a, b] = cycle.to_be_bytes();
+                put_framed(out, [LOW, a, b])
+            }
+        }
+    }
+}
+
+// Puts the length of a record's contents in front, and the contents behind it.
+fn put_framed<const N: usize>(out: &mut [u8], contents: [u8; N]) -> usize
+    requires short { N < 65536 }
+    requires room { N + 2 ≤ length out.old }
+    ensures value { result ≡ N + 2 }
+    ensures bytes { out.new ≡ laid (framed contents.entry) out.old }
+{
+    out[..2].copy_from_slice(&(N as u16).to_be_bytes());
+    out[2..N + 2].copy_from_slice(&contents);
+    N + 2
 }

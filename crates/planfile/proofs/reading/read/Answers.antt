@@ -1,5 +1,4 @@
-use Rattle.std.proofs.Common.{◌≡◌, ℕ, ◌⊎◌, List, length, get_or, drop, Ok, Err, Result, sym, refl, ap, ◌∙◌, inl, inr, arith, MatchResult}
-use Rattle.std.proofs.lemmas.Bool.{eqb-true, eqb-false}
+use Rattle.std.proofs.Common.{◌≡◌, List, ℕ, length, get_or, Ok, Err, Result, sym, ap, ◌∙◌, arith, MatchResult}
 use Rattle.refusal.specs.declared.Refusal.{Refusal}
 use Rattle.refusal.specs.declared.Refusal.TheVariants.{BadVersion}
 use Rattle.plan.specs.Net.{Net, NetInRange}
@@ -10,7 +9,6 @@ use Rattle.planfile.specs.Format.{encoded}
 use Rattle.planfile.specs.Reading.{Refused, Versioned}
 use Rattle.planfile.specs.Reading.Refused.{version}
 use Rattle.planfile.proofs.Once.{refused_once, accepted_not_refused, encoded_once}
-use Rattle.planfile.proofs.Numbers.{headed}
 use Rattle.planfile.proofs.reading.read.Goals as goal
 
 -- an answer that is right is the only right one
@@ -23,29 +21,17 @@ module _ (file : List ℕ) where
   refuses (Ok p) is e refused = absurd (accepted_not_refused (net p) file e (net_in_range p) is refused)
   refuses (Err x) refused e also = ap Err (refused_once file x e refused also)
 
-  unversioned : (length file ≡ 0) ⊎ (get_or file 0 0 ≡ 1 → ⊥) → Versioned file → ⊥
-  unversioned (inl none) v = omega (arith, none, ap length v.1)
-  unversioned (inr other) v = other (ap (λ xs. get_or xs 0 0) v.1)
+pub returns-in_default-clause-value : goal.returns-in_default-clause-value
+returns-in_default-clause-value c = version (λ v. omega (arith, ap length v.1))
 
-pub returns-then-is_empty : goal.returns-then-is_empty
-returns-then-is_empty c =
-    let file = c.args.file.now in
-    let off : (length file ≡ 0) ⊎ (get_or file 0 0 ≡ 1 → ⊥) = elim c.then-is_empty.branch [
-      | goal.then-is_empty-via-then-is_empty w ↦ inl (eqb-true _ _ (sym w.if-is_empty.ensures))
-      | goal.then-is_empty-via-else-is_empty+then-file-ne-VERSION w ↦ inr w.if-file-ne-VERSION.true
-    ] in
-    let right = version (unversioned file off) in
-    record { value = right; accepts = accepts file (Err BadVersion) right; back = λ q. accepts file (Err BadVersion) right (net q) (net_in_range q); refuses = refuses file (Err BadVersion) right }
+pub returns-in_default-2-clause-value : goal.returns-in_default-2-clause-value
+returns-in_default-2-clause-value c = version (λ v. omega (arith, ap (λ xs. get_or xs 0 0) v.1))
 
-pub read_records-requires : goal.read_records-requires
-read_records-requires c =
-    let file = c.args.file.now in
-    let some = eqb-false _ _ (sym c.if-is_empty.ensures) in
-    (drop 1 file, headed file (length file) 1 refl (omega (arith, some)) c.if-file-ne-VERSION.false)
+pub returns-clause-accepts : goal.returns-clause-accepts
+returns-clause-accepts c = accepts _ _ c.read_records.ensures
 
-pub returns : goal.returns
-returns c =
-    let file = c.args.file.now in
-    let r = c.read_records.result in
-    let right = c.read_records.ensures in
-    record { value = right; accepts = accepts file r right; back = λ q. accepts file r right (net q) (net_in_range q); refuses = refuses file r right }
+pub returns-clause-back : goal.returns-clause-back
+returns-clause-back c = λ q. accepts _ _ c.read_records.ensures (net q) (net_in_range q)
+
+pub returns-clause-refuses : goal.returns-clause-refuses
+returns-clause-refuses c = refuses _ _ c.read_records.ensures

@@ -1,11 +1,11 @@
-use Rattle.std.proofs.Common.{◌-◌, length, drop}
+use Rattle.std.proofs.Common.{◌-◌, length}
 use Rattle.planfile.specs.Drafts.{front}
 use Rattle.planfile.specs.Reading.{Behind}
 use Rattle.planfile.proofs.reading.read_records.Given as goal
 
--- the draft is what the file has in front of `at`
-abbrev pub invariant-loop-at : goal.invariant-loop-at
-invariant-loop-at l = Behind l.file (front l.draft) (drop l.at l.file) l.at
+-- the draft is what the file has in front of what is left
+abbrev pub invariant-loop-left : goal.invariant-loop-left
+invariant-loop-left l = Behind l.file (front l.draft) l.left (length l.file - length l.left)
 
-abbrev pub decreases-loop-at : goal.decreases-loop-at
-decreases-loop-at l = length l.file - l.at
+abbrev pub decreases-loop-left : goal.decreases-loop-left
+decreases-loop-left l = length l.left

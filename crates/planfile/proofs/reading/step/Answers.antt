@@ -1,27 +1,20 @@
-use Rattle.std.proofs.Common.{sym, subst, arith}
-use Rattle.std.proofs.lemmas.Result.{err_from_is_err_and}
-use Rattle.planfile.specs.Drafts.{front}
-use Rattle.planfile.specs.Reading.{Refused}
-use Rattle.planfile.proofs.Going.{cut_refused, unknown_refused, unfit_refused, fits_goes_on}
+use Rattle.std.proofs.Common.{◌≡◌, ◌++◌, sym, ap, ◌∙◌}
+use Rattle.std.proofs.lemmas.Option.{MatchOption-at_some}
+use Rattle.planfile.specs.Format.{framed, record_bytes}
+use Rattle.planfile.specs.Reading.Stuck.{cut, unknown, unfit}
+use Rattle.planfile.proofs.Growth.{handed_on, none_handed_on}
 use Rattle.planfile.proofs.reading.step.Goals as goal
 
 pub returns-in_err-contents : goal.returns-in_err-contents
-returns-in_err-contents c =
-    let p = err_from_is_err_and c.from_residual.result c.from_residual.ensures.1 in
-    let short = c.in_err-contents.ensures in
-    rw (p.1, p.2) (subst (λ e. Refused c.args.file.now e) (sym short.0) (cut_refused _ (front c.args.draft) _ c.requires.behind short.1))
+returns-in_err-contents c = handed_on _ _ c.from_residual.result _ c.from_residual.ensures.1 (rw c.in_err-contents.ensures.0 (cut c.in_err-contents.ensures.1))
 
-pub returns-in_default : goal.returns-in_default
-returns-in_default c =
-    unknown_refused _ (front c.args.draft) _ c.requires.behind c.in_ok-contents.contents.now c.in_ok-contents.ensures c.in_default.ensures
+pub returns-in_err-next : goal.returns-in_err-next
+returns-in_err-next c =
+    none_handed_on _ _ c.from_residual-in_err-next.result _ c.from_residual-in_err-next.ensures.1 c.in_err-next.ensures.ok_part c.in_err-next.ensures.value c.parse.ensures
+    (unknown _ _ c.in_ok-contents.ensures)
 
-pub returns-in_err-grown : goal.returns-in_err-grown
-returns-in_err-grown c =
-    let p = err_from_is_err_and c.from_residual-in_err-grown.result c.from_residual-in_err-grown.ensures.1 in
-    let contents = c.in_ok-contents in
-    rw (p.1, p.2) (unfit_refused _ (front c.args.draft) _ c.requires.behind contents.contents.now contents.ensures c.in-Some.next c.in-Some.ensures _ c.in_err-grown.ensures)
-
-pub returns : goal.returns
-returns c =
-    let contents = c.in_ok-contents in
-    (omega arith, fits_goes_on _ (front c.args.draft) _ c.requires.behind contents.contents.now contents.ensures c.in-Some.next c.in-Some.ensures _ c.in_ok-grown.ensures)
+pub returns-in_err-grow : goal.returns-in_err-grow
+returns-in_err-grow c =
+    let is = MatchOption-at_some _ _ _ c.in_ok-next.ensures.ok_part c.parse.ensures in
+    let split : c.args.left.now ≡ record_bytes c.in_ok-next.next ++ c.in_ok-contents.left.now = c.in_ok-contents.ensures ∙ ap (λ xs. framed xs ++ c.in_ok-contents.left.now) (sym is) in
+    handed_on _ _ c.from_residual-in_err-grow.result _ c.from_residual-in_err-grow.ensures.1 (unfit _ _ split c.in_err-grow.ensures)

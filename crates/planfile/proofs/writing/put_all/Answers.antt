@@ -1,22 +1,22 @@
-use Rattle.std.proofs.Common.{[], refl, arith}
-use Rattle.planfile.proofs.Rows.{written_room, written_fits, written_more, written_all}
+use Rattle.std.proofs.Common.{refl, arith}
+use Rattle.planfile.proofs.Rows.{written_room, written_more, written_all}
 use Rattle.planfile.proofs.writing.put_all.Goals as goal
 
 pub loop-item-init : goal.loop-item-init
-loop-item-init g c = record { within = omega arith; count = omega arith; room = c.requires; long = refl; front = refl }
+loop-item-init g c = record { within = omega arith; room = c.requires; count = omega arith; begun = record { count = refl; bytes = refl } }
 
 pub put-at-requires : goal.put-at-requires
-put-at-requires g c = written_room g.T.Encode.bytes [] _ _ _ _ _ c.loop-item.invariant c.item-item.result c.loop-item-test.true c.item-item.is
+put-at-requires g c = written_room c.loop-item.invariant c.item-item.result c.loop-item-test.true c.item-item.is
 
 pub overflow_add-at : goal.overflow_add-at
 overflow_add-at g c =
-    let fits = written_fits g.T.Encode.bytes [] _ _ _ _ _ c.loop-item.invariant c.item-item.result c.loop-item-test.true c.item-item.is in
-    omega (arith, fits, c.put-at.ensures.value, c.loop-item.auto.out, c.well_formed)
+    let next = written_more c.loop-item.invariant c.item-item.result c.loop-item-test.true c.item-item.is _ _ c.put-at.ensures.bytes c.put-at.ensures.value in
+    omega (arith, next.count, c.loop-item.auto.out, c.well_formed)
 
 pub loop-item-preserved : goal.loop-item-preserved
-loop-item-preserved g c = written_more g.T.Encode.bytes [] _ _ _ _ _ c.loop-item.invariant c.item-item.result c.loop-item-test.true c.item-item.is _ _ c.put-at.ensures.bytes c.put-at.ensures.value
+loop-item-preserved g c = written_more c.loop-item.invariant c.item-item.result c.loop-item-test.true c.item-item.is _ _ c.put-at.ensures.bytes c.put-at.ensures.value
 
 pub returns : goal.returns
 returns g c =
-    let all = written_all g.T.Encode.bytes [] _ _ _ _ _ c.loop-item.invariant c.loop-item-test.false in
-    record { value = all.0; bytes = all.1; within = c.loop-item.invariant.count }
+    let all = written_all c.loop-item.invariant c.loop-item-test.false in
+    record { value = all.count; bytes = all.bytes; within = c.loop-item.invariant.count }

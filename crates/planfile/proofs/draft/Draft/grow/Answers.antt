@@ -1,16 +1,31 @@
-use Rattle.std.proofs.Common.{sym, subst}
-use Rattle.planfile.specs.Drafts.{Grows, front}
-use Rattle.planfile.specs.Reading.{Good}
+use Rattle.std.proofs.Common.{map, ap, arith}
+use Rattle.std.proofs.lemmas.Option.{MatchOption-at_some}
+use Rattle.plan.specs.Views.{station_of}
+use Rattle.planfile.proofs.Growth.{none_handed_on, start_misplaced, first_misplaced, ring_misplaced, ring_beyond, ring_fits, first_beyond, first_fits}
 use Rattle.planfile.proofs.draft.Draft.grow.Goals as goal
 
-pub grow-requires : goal.grow-requires
-grow-requires c = subst (λ d. Good (front d)) c.in-Masters.is c.requires
+pub returns-in_default : goal.returns-in_default
+returns-in_default c = rw c.in_default.is-0 (start_misplaced _ _ c.in_default.not-Ring-1)
 
-pub returns-in-Start : goal.returns-in-Start
-returns-in-Start c = subst (λ d. Grows (front d) c.args.next c.args.at c.start_with.result) (sym c.in-Start.is) c.start_with.ensures
+pub returns-in_default-2 : goal.returns-in_default-2
+returns-in_default-2 c = rw c.in_default.is-0 (first_misplaced _ _ _ c.in_default.not-Master-1)
 
-pub returns-in-Ring : goal.returns-in-Ring
-returns-in-Ring c = subst (λ d. Grows (front d) c.args.next c.args.at c.first_master.result) (sym c.in-Ring.is) c.first_master.ensures
+pub returns-in_default-3 : goal.returns-in_default-3
+returns-in_default-3 c = rw (c.in_default.is-0, c.in_default.is-1) (ring_misplaced _ _ _ _ _)
 
-pub returns-in-Masters : goal.returns-in-Masters
-returns-in-Masters c = subst (λ d. Grows (front d) c.args.next c.args.at c.grow.result) (sym c.in-Masters.is) c.grow.ensures
+pub returns-in_default-try_from : goal.returns-in_default-try_from
+returns-in_default-try_from c = rw (c.in-Start-Ring.is-0, c.in-Start-Ring.is-1) (ring_beyond _ _ (λ range. omega (arith, c.in_default-try_from.ensures.0)))
+
+pub returns-in-Ok : goal.returns-in-Ok
+returns-in-Ok c = rw (c.in-Start-Ring.is-0, c.in-Start-Ring.is-1, c.in-Ok.ensures.1) (ring_fits _ c.in-Ok.ensures.0)
+
+pub returns-in_err-last-in-Ring-Master : goal.returns-in_err-last-in-Ring-Master
+returns-in_err-last-in-Ring-Master c =
+    let last = c.in_err-last-in-Ring-Master in
+    rw (c.in-Ring-Master.is-0, c.in-Ring-Master.is-1)
+    (none_handed_on _ _ c.from_residual.result _ c.from_residual.ensures.1 last.ensures.ok_part last.ensures.value c.new.ensures (first_beyond _ _ _))
+
+pub returns-in_ok-last-in-Ring-Master : goal.returns-in_ok-last-in-Ring-Master
+returns-in_ok-last-in-Ring-Master c =
+    let made = MatchOption-at_some _ _ _ c.in_ok-last-in-Ring-Master.ensures.ok_part c.new.ensures in
+    rw (c.in-Ring-Master.is-0, c.in-Ring-Master.is-1) (first_fits _ _ _ _ (ap (map station_of) c.new-done.ensures) made.1 made.0)

@@ -1,21 +1,22 @@
 use Rattle.std.proofs.Common.{◌<◌, length, ap, ◌∙◌, arith}
+use Rattle.std.proofs.lemmas.Option.{MatchOption-at_some}
 use Rattle.plan.specs.Net.{with_low}
 use Rattle.plan.specs.Views.{station_of}
 use Rattle.plan.proofs.Ranges.{station_in_range}
-use Rattle.planfile.proofs.Growth.{taken, low_crowded, low_beyond, low_fits}
+use Rattle.planfile.proofs.Growth.{taken, few_done, none_handed_on, low_crowded, low_beyond, low_fits}
 use Rattle.planfile.proofs.draft.Growing.add_low.Goals as goal
 
 pub returns-then-lows-eq-LOWS : goal.returns-then-lows-eq-LOWS
-returns-then-lows-eq-LOWS c = low_crowded _ _ _ _ c.requires _ (omega (arith, c.lows.ensures.len, c.if-lows-eq-LOWS.true))
+returns-then-lows-eq-LOWS c = low_crowded _ _ _ _ (few_done c.args.self) _ (omega (arith, c.lows.ensures.len, c.if-lows-eq-LOWS.true))
 
-pub returns-in_default : goal.returns-in_default
-returns-in_default c =
-    low_beyond _ _ _ _ c.requires _ (station_in_range c.args.self.last).few_highs (omega (arith, c.lows.ensures.len, c.lows.ensures.bound, c.if-lows-eq-LOWS.false)) c.in_default.ensures
+pub returns-in_err-low : goal.returns-in_err-low
+returns-in_err-low c =
+    none_handed_on _ _ c.from_residual.result _ c.from_residual.ensures.1 c.in_err-low.ensures.ok_part c.in_err-low.ensures.value c.new.ensures
+    (low_beyond _ _ _ _ (few_done c.args.self) _ (station_in_range c.args.self.last).few_highs (omega (arith, c.lows.ensures.len, c.lows.ensures.bound, c.if-lows-eq-LOWS.false)))
 
 pub returns : goal.returns
 returns c =
-    let m = station_of c.args.self.last in
-    let room : length m.lows < 4 = omega (arith, c.lows.ensures.len, c.lows.ensures.bound, c.if-lows-eq-LOWS.false) in
-    let made = c.in-Some.ensures in
+    let room : length (station_of c.args.self.last).lows < 4 = omega (arith, c.lows.ensures.len, c.lows.ensures.bound, c.if-lows-eq-LOWS.false) in
+    let made = MatchOption-at_some _ _ _ c.in_ok-low.ensures.ok_part c.new.ensures in
     let added = taken c.add_low.result c.add_low.ensures (λ _ full. omega (arith, room, full.0)) in
-    low_fits _ 0 _ _ c.requires _ _ (added.1 ∙ ap (with_low m) made.1) (station_in_range c.args.self.last).few_highs room made.0
+    low_fits _ 0 _ _ (few_done c.args.self) _ _ (added.1 ∙ ap (with_low (station_of c.args.self.last)) made.1) (station_in_range c.args.self.last).few_highs room made.0

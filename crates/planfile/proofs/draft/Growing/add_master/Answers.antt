@@ -1,25 +1,27 @@
 use Rattle.std.proofs.Common.{length, ap, arith}
 use Rattle.std.proofs.lemmas.List.{length-map}
+use Rattle.std.proofs.lemmas.Option.{MatchOption-at_some}
 use Rattle.bounded.specs.Items.{items}
 use Rattle.plan.specs.Views.{station_of}
-use Rattle.planfile.proofs.Growth.{pushed, master_crowded, master_beyond, master_fits}
+use Rattle.planfile.proofs.Growth.{few_done, pushed, none_handed_on, master_crowded, master_beyond, master_fits}
 use Rattle.planfile.proofs.draft.Growing.add_master.Goals as goal
 
 pub returns-then-len-eq-MASTERS : goal.returns-then-len-eq-MASTERS
 returns-then-len-eq-MASTERS c =
     let ms = items c.push.new.self in
-    let all = pushed c.args.self ms c.requires c.push.ensures.items in
-    master_crowded _ _ _ _ c.requires _ (omega (arith, ap length all, length-map ms station_of, c.len.ensures.value, c.if-len-eq-MASTERS.true))
+    let all = pushed c.args.self ms c.push.ensures.items in
+    master_crowded _ _ _ _ (few_done c.args.self) _ (omega (arith, ap length all, length-map ms station_of, c.len.ensures.value, c.if-len-eq-MASTERS.true))
 
-pub returns-in_default : goal.returns-in_default
-returns-in_default c =
+pub returns-in_err-last : goal.returns-in_err-last
+returns-in_err-last c =
     let ms = items c.push.new.self in
-    let all = pushed c.args.self ms c.requires c.push.ensures.items in
-    master_beyond _ _ _ _ c.requires _ (omega (arith, ap length all, length-map ms station_of, c.len.ensures.value, c.len.ensures.bound, c.if-len-eq-MASTERS.false)) c.in_default.ensures
+    let all = pushed c.args.self ms c.push.ensures.items in
+    none_handed_on _ _ c.from_residual.result _ c.from_residual.ensures.1 c.in_err-last.ensures.ok_part c.in_err-last.ensures.value c.new.ensures
+    (master_beyond _ _ _ _ (few_done c.args.self) _ (omega (arith, ap length all, length-map ms station_of, c.len.ensures.value, c.len.ensures.bound, c.if-len-eq-MASTERS.false)))
 
 pub returns : goal.returns
 returns c =
     let ms = items c.push.new.self in
-    let all = pushed c.args.self ms c.requires c.push.ensures.items in
-    let made = c.in-Some.ensures in
-    master_fits _ 0 _ _ c.requires _ _ _ all made.1 (omega (arith, length-map ms station_of, c.len.ensures.value, c.len.ensures.bound, c.if-len-eq-MASTERS.false)) made.0
+    let all = pushed c.args.self ms c.push.ensures.items in
+    let made = MatchOption-at_some _ _ _ c.in_ok-last.ensures.ok_part c.new.ensures in
+    master_fits _ 0 _ _ (few_done c.args.self) _ _ _ all made.1 (omega (arith, length-map ms station_of, c.len.ensures.value, c.len.ensures.bound, c.if-len-eq-MASTERS.false)) made.0

@@ -1,6 +1,0 @@
-use Rattle.std.proofs.Common.{arith}
-use Rattle.planfile.proofs.Numbers.{two_there}
-use Rattle.planfile.proofs.bytes.two_at.Goals as goal
-
-pub returns : goal.returns
-returns c = two_there c.args.bytes.now c.args.at _ c.requires (λ k. omega (arith, c.type_inv.bytes k)) c.from_be_bytes.ensures
