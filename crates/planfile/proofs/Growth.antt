@@ -68,8 +68,8 @@ ring_misplaced t at done m s = misplaced never
 pub ring_beyond : (t at : ℕ) → (TargetInRange t → ⊥) → Unfit start (Ring t) at (OutOfRange at)
 ring_beyond t at off = beyond _ ring tt off
 
-pub ring_fits : (t : ℕ) → TargetInRange t → Fits start (Ring t) (ringed t)
-ring_fits t range = record { next = ring; room = tt; range = range }
+pub ring_fits : (t u : ℕ) → u ≡ t → TargetInRange t → Fits start (Ring t) (ringed u)
+ring_fits t u e range = rw e record { next = ring; room = tt; range = range }
 
 pub first_beyond : (t h at : ℕ) → (HopInRange h → ⊥) → Unfit (ringed t) (Master h) at (OutOfRange at)
 first_beyond t h at off = beyond _ first (omega arith, omega arith, omega arith) off

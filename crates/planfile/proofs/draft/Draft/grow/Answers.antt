@@ -17,7 +17,7 @@ pub returns-in_default-try_from : goal.returns-in_default-try_from
 returns-in_default-try_from c = rw (c.in-Start-Ring.is-0, c.in-Start-Ring.is-1) (ring_beyond _ _ (λ range. omega (arith, c.in_default-try_from.ensures.0)))
 
 pub returns-in-Ok : goal.returns-in-Ok
-returns-in-Ok c = rw (c.in-Start-Ring.is-0, c.in-Start-Ring.is-1, c.in-Ok.ensures.1) (ring_fits _ c.in-Ok.ensures.0)
+returns-in-Ok c = rw (c.in-Start-Ring.is-0, c.in-Start-Ring.is-1) (ring_fits _ _ c.in-Ok.ensures.1 c.in-Ok.ensures.0)
 
 pub returns-in_err-last-in-Ring-Master : goal.returns-in_err-last-in-Ring-Master
 returns-in_err-last-in-Ring-Master c =

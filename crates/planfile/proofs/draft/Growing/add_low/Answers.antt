@@ -1,4 +1,4 @@
-use Rattle.std.proofs.Common.{◌<◌, length, ap, ◌∙◌, arith}
+use Rattle.std.proofs.Common.{rules, ◌<◌, length, ap, ◌∙◌, arith}
 use Rattle.std.proofs.lemmas.Option.{MatchOption-at_some}
 use Rattle.plan.specs.Net.{with_low}
 use Rattle.plan.specs.Views.{station_of}
@@ -7,7 +7,7 @@ use Rattle.planfile.proofs.Growth.{taken, few_done, none_handed_on, low_crowded,
 use Rattle.planfile.proofs.draft.Growing.add_low.Goals as goal
 
 pub returns-then-lows-eq-LOWS : goal.returns-then-lows-eq-LOWS
-returns-then-lows-eq-LOWS c = low_crowded _ _ _ _ (few_done c.args.self) _ (omega (arith, c.lows.ensures.len, c.if-lows-eq-LOWS.true))
+returns-then-lows-eq-LOWS c = search (rules, low_crowded, few_done)
 
 pub returns-in_err-low : goal.returns-in_err-low
 returns-in_err-low c =
