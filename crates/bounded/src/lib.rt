@@ -7,6 +7,7 @@ ghost use Rattle.std.specs.Prelude.{◌≡◌, ◌≤◌, length};
 mod ops;
 
 /// A list of at most N items. The slots past its length hold items that never show.
+// The library's `ArrayVec` would not do: it is not `Copy`, as a plan is, and its clone can fail.
 #[derive(Copy)]
 pub struct ArrayVec<T, const N: usize> {
     slots: [T; N],

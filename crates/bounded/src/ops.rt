@@ -1,22 +1,23 @@
 ghost use Rattle.std.specs.Prelude.{◌≡◌, ◌≤◌, [], ◌∷◌, ◌++◌, length, take, ⊤};
-ghost use Rattle.bounded.specs.Items.{Pushed, items};
+ghost use Rattle.bounded.specs.Items.{FirstRemoved, Pushed, items};
 
 use crate::ArrayVec;
 use std::alloc::AllocError;
 
+// By hand, since `Clone` is not derived for a generic struct with ghost fields.
 impl<T: Copy, const N: usize> Clone for ArrayVec<T, N> {
     ghost is_clone = { λ v w. w ≡ v };
 
     ghost is_infallible = { λ _. ⊤ };
 
-    fn clone(&self) -> Result<ArrayVec<T, N>, AllocError> {
+    fn clone(&self) -> Result<Self, AllocError> {
         Ok(*self)
     }
 }
 
 impl<T: Copy, const N: usize> ArrayVec<T, N> {
     /// The empty list. `fill` is put into the unused slots and never shows.
-    pub fn new(fill: T) -> ArrayVec<T, N>
+    pub fn new(fill: T) -> Self
         ensures { items result ≡ [] }
     {
         ArrayVec {
@@ -38,8 +39,7 @@ impl<T: Copy, const N: usize> ArrayVec<T, N> {
         ensures value { result.now ≡ items self.now }
         ensures bound { length result.now ≤ N }
     {
-        let all = &self.slots[..];
-        &all[0..self.len]
+        &self.slots[..self.len]
     }
 
     /// Adds `x` behind the last item; where all N places are taken, hands it back and changes nothing.
@@ -55,5 +55,18 @@ impl<T: Copy, const N: usize> ArrayVec<T, N> {
         } else {
             Err(x)
         }
+    }
+
+    /// Removes the first item and gives it; none where the list is empty, and then nothing changes.
+    pub fn remove_first(&mut self) -> Option<T>
+        ensures { FirstRemoved self.old self.new result }
+    {
+        if self.len == 0 {
+            return None;
+        }
+        let first = self.slots[0];
+        self.slots.rotate_left(1);
+        self.len -= 1;
+        Some(first)
     }
 }

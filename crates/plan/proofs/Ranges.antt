@@ -44,7 +44,7 @@ station_in_range m = record {
 
 pub net_in_range : (p : Plan) → NetInRange (net p)
 net_in_range p = record {
-  target = p.range;
+  target = p.target.range;
   some = omega (arith, length-map (items p.masters) station_of, p.some);
   few = few station_of p.masters;
   each = all_of station_of StationInRange station_in_range (items p.masters);

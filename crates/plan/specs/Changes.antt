@@ -8,22 +8,29 @@ use Rattle.plan.specs.declared.HighStream.{HighStream}
 use Rattle.plan.specs.declared.LowStream.{LowStream}
 use Rattle.plan.specs.declared.Master.{Master}
 use Rattle.plan.specs.declared.Plan.{Plan}
+use Rattle.plan.specs.declared.Target.{Target}
 
--- one more behind the others, or a full table: then the item comes back and nothing changes
+-- One more behind the others in a table with room for n, as a view shows it. `held` counts what is in
+-- the table; in a full one nothing changes, and the item comes back.
+abbrev pub Added : {X V Y : Type 0} → ℕ → (V → ℕ) → (X → V) → (V → V) → X → X → Y → Result (Unit {0}) Y → Type 0
+Added n held view more x x' y r = MatchResult r
+    (λ _. (held (view x) < n) × (view x' ≡ more (view x)))
+    (λ back. (held (view x) ≡ n) × (back ≡ y) × (x' ≡ x))
+
 abbrev pub HighAdded : Master → Master → HighStream → Result (Unit {0}) HighStream → Type 0
-HighAdded m m' s r = MatchResult r
-    (λ _. (length (station_of m).highs < 8) × (station_of m' ≡ with_high (station_of m) (stream_of s)))
-    (λ back. (length (station_of m).highs ≡ 8) × (back ≡ s) × (m' ≡ m))
+HighAdded m m' s r = Added 8 (λ v. length v.highs) station_of (λ v. with_high v (stream_of s)) m m' s r
 
 abbrev pub LowAdded : Master → Master → LowStream → Result (Unit {0}) LowStream → Type 0
-LowAdded m m' s r = MatchResult r
-    (λ _. (length (station_of m).lows < 4) × (station_of m' ≡ with_low (station_of m) (cycle_of s)))
-    (λ back. (length (station_of m).lows ≡ 4) × (back ≡ s) × (m' ≡ m))
+LowAdded m m' s r = Added 4 (λ v. length v.lows) station_of (λ v. with_low v (cycle_of s)) m m' s r
 
 abbrev pub MasterAdded : Plan → Plan → Master → Result (Unit {0}) Master → Type 0
-MasterAdded p p' m r = MatchResult r
-    (λ _. (length (net p).masters < 8) × (net p' ≡ with_master (net p) (station_of m)))
-    (λ back. (length (net p).masters ≡ 8) × (back ≡ m) × (p' ≡ p))
+MasterAdded p p' m r = Added 8 (λ v. length v.masters) net (λ v. with_master v (station_of m)) p p' m r
+
+-- a time becomes a target, or it is out of range
+abbrev pub Targeted : ℕ → Result Target Refusal → Type 0
+Targeted t r = MatchResult r
+    (λ target. TargetInRange t × (target.time ≡ t))
+    (λ e. (16777215 < t) × (e ≡ TargetTooLarge))
 
 -- that number changes and no other, or it is out of range and nothing changes
 abbrev pub Retargeted : Plan → Plan → ℕ → Result (Unit {0}) Refusal → Type 0

@@ -1,3 +1,4 @@
 pub mod Net
 pub mod Views
 pub mod Changes
+pub mod Shown

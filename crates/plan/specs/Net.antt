@@ -1,5 +1,5 @@
 -- A bus plan in plain numbers, its ranges, and its walk.
-use Rattle.std.specs.Prelude.{ℕ, ◌+◌, ◌≤◌, List, [], ◌∷◌, ◌++◌, length}
+use Rattle.std.specs.Prelude.{ℕ, ◌≤◌, List, [], ◌∷◌, ◌++◌, length, map, sum}
 use Rattle.std.specs.List.{AllByRecursion}
 
 -- a high stream: its longest cycle with all retries, its deadline, and the delays of generation and delivery
@@ -76,8 +76,7 @@ pub record NetInRange (n : Net) : Type 0 where
   pub each : AllByRecursion StationInRange n.masters
 
 abbrev pub hops : List Station → ℕ
-hops [] = 0
-hops (m ∷ ms) = m.hop + hops ms
+hops ms = sum (map (λ m. m.hop) ms)
 
 -- the time of one idle rotation
 abbrev pub walk : Net → ℕ

@@ -1,55 +1,75 @@
-ghost use Rattle.std.specs.Prelude.{◌≡◌, MatchOption};
-ghost use Rattle.plan.specs.Net.{StreamInRange, times};
-ghost use Rattle.plan.specs.Views.{stream_of};
+ghost use Rattle.std.specs.Prelude.{◌≡◌, MatchOption, Some};
+ghost use Rattle.plan.specs.Net.{StreamInRange};
+ghost use Rattle.plan.specs.Shown.{stream_text};
+ghost use Rattle.plan.specs.Views.{stream_of, told};
 
-use crate::HighStream;
+use crate::{HighStream, Times};
+use std::fmt;
 
 impl HighStream {
     /// A high stream with these times; none where one is out of its range.
-    pub fn new(cycle: u16, deadline: u32, generation: u16, delivery: u16) -> Option<HighStream>
-        ensures { MatchOption result (StreamInRange (times cycle deadline generation delivery) → ⊥) (λ s. StreamInRange (times cycle deadline generation delivery) × (stream_of s ≡ times cycle deadline generation delivery)) }
+    pub fn new(times: Times) -> Option<HighStream>
+        ensures { MatchOption result (StreamInRange (told times) → ⊥) (λ s. StreamInRange (told times) × (stream_of s ≡ told times)) }
     {
-        if cycle == 0
-            || cycle > 60_000
-            || deadline == 0
-            || generation > 60_000
-            || delivery > 60_000
-        {
+        let in_range = (1..=60_000).contains(&times.cycle)
+            && times.deadline > 0
+            && times.generation <= 60_000
+            && times.delivery <= 60_000;
+        if !in_range {
             return None;
         }
-        Some(HighStream {
-            cycle,
-            deadline,
-            generation,
-            delivery,
-        })
+        Some(HighStream { times })
+    }
+
+    /// All its times.
+    pub fn times(&self) -> Times
+        ensures { told result ≡ stream_of self.now }
+    {
+        self.times
     }
 
     /// The longest cycle, with all retries in it.
     pub fn cycle(&self) -> u16
         ensures { result ≡ (stream_of self.now).cycle }
     {
-        self.cycle
+        self.times.cycle
     }
 
     /// The deadline of a request.
     pub fn deadline(&self) -> u32
         ensures { result ≡ (stream_of self.now).deadline }
     {
-        self.deadline
+        self.times.deadline
     }
 
     /// The delay of a request's generation.
     pub fn generation(&self) -> u16
         ensures { result ≡ (stream_of self.now).generation }
     {
-        self.generation
+        self.times.generation
     }
 
     /// The delay of its delivery.
     pub fn delivery(&self) -> u16
         ensures { result ≡ (stream_of self.now).delivery }
     {
-        self.delivery
+        self.times.delivery
+    }
+}
+
+impl fmt::Display for HighStream {
+    ghost output = { λ s. Some (stream_text (stream_of s)) };
+
+    fn fmt<W: fmt::Write>(&self, f: &mut fmt::Formatter<W>) -> fmt::Result {
+        let Times {
+            cycle,
+            deadline,
+            generation,
+            delivery,
+        } = self.times;
+        write!(
+            f,
+            "cycle {cycle}, deadline {deadline}, generation {generation}, delivery {delivery}"
+        )
     }
 }

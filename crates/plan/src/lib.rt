@@ -12,6 +12,7 @@ mod high_stream;
 mod low_stream;
 mod masters;
 mod plans;
+mod targets;
 
 /// How many masters a plan has room for.
 pub const MASTERS: usize = 8;
@@ -25,16 +26,26 @@ pub const LOWS: usize = 4;
 /// The greatest target rotation time.
 pub const GREATEST_TARGET: u32 = 16_777_215;
 
+/// The times of a high stream as they are told, in range or not.
+#[derive(Clone, Copy, Debug, PartialEq, Eq)]
+pub struct Times {
+    /// The longest cycle, with all retries in it.
+    pub cycle: u16,
+    /// The deadline of a request.
+    pub deadline: u32,
+    /// The delay of a request's generation.
+    pub generation: u16,
+    /// The delay of its delivery.
+    pub delivery: u16,
+}
+
 /// A high stream: requests that have a deadline.
 #[derive(Clone, Copy)]
 pub struct HighStream {
-    cycle: u16,
-    deadline: u32,
-    generation: u16,
-    delivery: u16,
-    ghost cycles: { (1 ≤ cycle) × (cycle ≤ 60000) },
-    ghost deadlines: { (1 ≤ deadline) × (deadline ≤ 4294967295) },
-    ghost delays: { (generation ≤ 60000) × (delivery ≤ 60000) },
+    times: Times,
+    ghost cycles: { (1 ≤ times.cycle) × (times.cycle ≤ 60000) },
+    ghost deadlines: { (1 ≤ times.deadline) × (times.deadline ≤ 4294967295) },
+    ghost delays: { (times.generation ≤ 60000) × (times.delivery ≤ 60000) },
 }
 
 /// A low stream: requests that run when time is left.
@@ -53,11 +64,17 @@ pub struct Master {
     ghost range: { (1 ≤ hop) × (hop ≤ 10000) },
 }
 
-/// A plan: 1 to 8 masters, numbered from 1 in token order, and the target; 0 means not set.
+/// A target rotation time; 0 means not set.
+#[derive(Clone, Copy)]
+pub struct Target {
+    time: u32,
+    ghost range: { time ≤ 16777215 },
+}
+
+/// A plan: 1 to 8 masters, numbered from 1 in token order, and the target.
 #[derive(Clone, Copy)]
 pub struct Plan {
-    target: u32,
+    target: Target,
     masters: ArrayVec<Master, MASTERS>,
-    ghost range: { target ≤ 16777215 },
     ghost some: { 1 ≤ length (items masters) },
 }

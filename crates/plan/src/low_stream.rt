@@ -1,15 +1,17 @@
-ghost use Rattle.std.specs.Prelude.{◌≡◌, MatchOption};
+ghost use Rattle.std.specs.Prelude.{◌≡◌, MatchOption, Some};
 ghost use Rattle.plan.specs.Net.{CycleInRange};
+ghost use Rattle.plan.specs.Shown.{cycle_text};
 ghost use Rattle.plan.specs.Views.{cycle_of};
 
 use crate::LowStream;
+use std::fmt;
 
 impl LowStream {
     /// A low stream with this longest cycle; none where that is out of its range.
     pub fn new(cycle: u16) -> Option<LowStream>
         ensures { MatchOption result (CycleInRange cycle → ⊥) (λ s. CycleInRange cycle × (cycle_of s ≡ cycle)) }
     {
-        if cycle == 0 || cycle > 60_000 {
+        if !(1..=60_000).contains(&cycle) {
             return None;
         }
         Some(LowStream { cycle })
@@ -20,5 +22,14 @@ impl LowStream {
         ensures { result ≡ cycle_of self.now }
     {
         self.cycle
+    }
+}
+
+impl fmt::Display for LowStream {
+    ghost output = { λ s. Some (cycle_text (cycle_of s)) };
+
+    fn fmt<W: fmt::Write>(&self, f: &mut fmt::Formatter<W>) -> fmt::Result {
+        let cycle = self.cycle;
+        write!(f, "cycle {cycle}")
     }
 }

@@ -3,7 +3,7 @@ ghost use Rattle.plan.specs.Changes.{HighAdded, LowAdded};
 ghost use Rattle.plan.specs.Net.{HopInRange, bare};
 ghost use Rattle.plan.specs.Views.{stream_of, cycle_of, station_of};
 
-use crate::{HighStream, LowStream, Master};
+use crate::{HighStream, LowStream, Master, Times};
 use bounded::ArrayVec;
 
 impl Master {
@@ -11,7 +11,7 @@ impl Master {
     pub fn new(hop: u16) -> Option<Master>
         ensures { MatchOption result (HopInRange hop → ⊥) (λ m. HopInRange hop × (station_of m ≡ bare hop)) }
     {
-        if hop == 0 || hop > 10_000 {
+        if !(1..=10_000).contains(&hop) {
             return None;
         }
         Some(Master::bare(hop))
@@ -25,10 +25,12 @@ impl Master {
         Master {
             hop,
             highs: ArrayVec::new(HighStream {
-                cycle: 1,
-                deadline: 1,
-                generation: 0,
-                delivery: 0,
+                times: Times {
+                    cycle: 1,
+                    deadline: 1,
+                    generation: 0,
+                    delivery: 0,
+                },
             }),
             lows: ArrayVec::new(LowStream { cycle: 1 }),
         }

@@ -4,7 +4,7 @@ ghost use Rattle.plan.specs.Changes.{MasterAdded, Retargeted};
 ghost use Rattle.plan.specs.Net.{fresh, planned, walk};
 ghost use Rattle.plan.specs.Views.{station_of, net, EveryPlanInRange};
 
-use crate::{GREATEST_TARGET, MASTERS, Master, Plan};
+use crate::{MASTERS, Master, Plan, Target};
 use bounded::ArrayVec;
 use refusal::Refusal;
 
@@ -17,7 +17,10 @@ impl Plan {
         let first = Master::bare(1);
         let mut masters = ArrayVec::<Master, MASTERS>::new(first);
         let _ = masters.push(first);
-        Plan { target: 0, masters }
+        Plan {
+            target: Target { time: 0 },
+            masters,
+        }
     }
 
     /// A plan of these masters, in token order, at this target; none where the target is out of its
@@ -25,7 +28,8 @@ impl Plan {
     pub fn of(target: u32, masters: ArrayVec<Master, MASTERS>) -> Option<Plan>
         ensures { MatchOption result ((target ≤ 16777215) × (1 ≤ length (items masters)) → ⊥) (λ p. (target ≤ 16777215) × (1 ≤ length (items masters)) × (net p ≡ planned target (map station_of (items masters)))) }
     {
-        if target > GREATEST_TARGET || masters.len() == 0 {
+        let target = Target::try_from(target).ok()?;
+        if masters.len() == 0 {
             return None;
         }
         Some(Plan { target, masters })
@@ -35,7 +39,7 @@ impl Plan {
     pub fn target(&self) -> u32
         ensures { result ≡ (net self.now).target }
     {
-        self.target
+        self.target.into()
     }
 
     /// The masters, in token order.
@@ -59,10 +63,7 @@ impl Plan {
         ensures cases { Retargeted self.old self.new target result }
         ensures tables { self.new.masters ≡ self.old.masters }
     {
-        if target > GREATEST_TARGET {
-            return Err(Refusal::TargetTooLarge);
-        }
-        self.target = target;
+        self.target = Target::try_from(target)?;
         Ok(())
     }
 
@@ -70,10 +71,9 @@ impl Plan {
     pub fn walk(&self) -> u32
         ensures { result ≡ walk (net self.now) }
     {
-        let mut sum = 0;
-        for master in self.masters() {
-            sum += u32::from(master.hop);
-        }
-        sum
+        self.masters()
+            .iter()
+            .map(|master| u32::from(master.hop))
+            .sum()
     }
 }

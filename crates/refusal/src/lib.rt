@@ -6,6 +6,7 @@ ghost use Rattle.std.specs.Prelude.{◌≡◌, Some};
 ghost use Rattle.refusal.specs.Refusals.{layer_of, number_of, place_of, reason_of};
 ghost use Rattle.refusal.specs.Shown.{layer_text, place_text, refusal_text};
 
+use std::error::Error;
 use std::fmt;
 
 /// The part of the product that refuses.
@@ -162,3 +163,5 @@ impl fmt::Display for Refusal {
         )
     }
 }
+
+impl Error for Refusal {}

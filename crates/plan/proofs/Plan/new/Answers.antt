@@ -1,8 +1,5 @@
 use Rattle.plan.proofs.Ranges.{net_in_range}
 use Rattle.plan.proofs.Plan.new.Goals as goal
 
-pub returns : goal.returns
-returns c = record {
-  fresh = simp (c.push.ensures.items, c.new-masters.ensures, c.bare-first.ensures);
-  ranges = net_in_range;
-}
+pub returns-clause-ranges : goal.returns-clause-ranges
+returns-clause-ranges c = net_in_range
