@@ -5,7 +5,7 @@ use Rattle.std.proofs.lemmas.List.{length_push}
 use Rattle.std.proofs.ByRecursion.{All-push}
 use Rattle.plan.specs.Net.{Stream, Station, bare, with_high, with_low, planned, TargetInRange, HopInRange, CycleInRange, StreamInRange, StationInRange, NetInRange}
 use Rattle.planfile.specs.declared.records.Record.{Record}
-use Rattle.planfile.specs.Told.{told}
+use Rattle.plan.specs.Views.{told}
 use Rattle.planfile.specs.Reading.{Front, Next, Room, InRange, Good}
 use Rattle.planfile.specs.Reading.Next.{ring, first, master, high, low}
 

@@ -12,8 +12,8 @@ use Rattle.bounded.specs.Items.{items}
 use Rattle.bounded.proofs.Pushes.{shows_push}
 use Rattle.plan.specs.Views.{station_of}
 use Rattle.plan.specs.declared.Master as plan
-use Rattle.planfile.specs.Told.{told}
-use Rattle.planfile.specs.declared.target.Times.{Times}
+use Rattle.plan.specs.Views.{told}
+use Rattle.plan.specs.declared.Times.{Times}
 use Rattle.planfile.specs.declared.draft.Draft.{Draft}
 use Rattle.planfile.specs.declared.draft.Growing.{Growing}
 use Rattle.planfile.specs.Drafts.{Grows, grown}

@@ -4,7 +4,7 @@ use Rattle.std.proofs.lemmas.List.{append-nil, append_assoc, map_push, flat_map_
 use Rattle.plan.specs.Net.{Stream, Station, bare, with_high, with_low, planned}
 use Rattle.planfile.specs.declared.records.Record.{Record}
 use Rattle.planfile.specs.declared.records.Record.TheVariants.{Ring, Low}
-use Rattle.planfile.specs.Told.{told}
+use Rattle.plan.specs.Views.{told}
 use Rattle.planfile.specs.Format.{record_bytes, high_record, station_records, records, file_of}
 use Rattle.planfile.specs.Reading.{Front, Next, front_records, written}
 use Rattle.planfile.specs.Reading.Next.{ring, first, master, high, low}

@@ -11,11 +11,11 @@ use Rattle.planfile.specs.declared.records.Record.{Record}
 use Rattle.refusal.specs.declared.Refusal.{Refusal}
 
 abbrev pub grown : Growing → Front
-grown g = growing g.target.value (map station_of (items g.done)) (station_of g.last)
+grown g = growing g.target.time (map station_of (items g.done)) (station_of g.last)
 
 abbrev pub front : Draft → Front
 front Start = start
-front (Ring target) = ringed target.value
+front (Ring target) = ringed target.time
 front (Masters g) = grown g
 
 -- what comes of the record r at the place `at` behind the front f: a draft that it fits, or its refusal

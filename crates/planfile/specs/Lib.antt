@@ -1,4 +1,3 @@
-pub mod Told
 pub mod Format
 pub mod Reading
 pub mod Drafts

@@ -4,8 +4,8 @@ use Rattle.std.specs.Prelude.{◌≡◌, ℕ, ◌+◌, ◌*◌, ◌<◌, ◌≤�
 use Rattle.refusal.specs.declared.Refusal.{Refusal}
 use Rattle.refusal.specs.declared.Refusal.TheVariants.{BadVersion, CutShort, BadRecord, OutOfRange, TooMany, NoMaster}
 use Rattle.plan.specs.Net.{Station, bare, with_high, with_low, planned, TargetInRange, HopInRange, CycleInRange, StreamInRange, NetInRange}
-use Rattle.planfile.specs.Told.{told}
-use Rattle.planfile.specs.declared.target.Times.{Times}
+use Rattle.plan.specs.Views.{told}
+use Rattle.plan.specs.declared.Times.{Times}
 use Rattle.planfile.specs.declared.records.Record.{Record}
 use Rattle.planfile.specs.declared.records.Record.TheVariants.{Ring, Master, High, Low}
 use Rattle.planfile.specs.Format.{contents, framed, record_bytes, records, file_of}

@@ -2,9 +2,8 @@
 ghost use Rattle.std.specs.Prelude.{◌<◌, length};
 ghost use Rattle.bounded.specs.Items.{items};
 
-use crate::target::Target;
 use bounded::ArrayVec;
-use plan::{MASTERS, Master};
+use plan::{MASTERS, Master, Target};
 
 mod grow;
 

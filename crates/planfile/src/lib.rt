@@ -4,7 +4,6 @@
 mod draft;
 mod reading;
 mod records;
-mod target;
 mod writing;
 
 pub use reading::read;

@@ -3,7 +3,7 @@ ghost use Rattle.std.specs.Prelude.{◌≡◌, ◌+◌, ◌<◌, ◌≤◌, leng
 ghost use Rattle.planfile.specs.Format.{contents, framed, record_bytes};
 ghost use Rattle.planfile.specs.Laying.{laid};
 
-use crate::target::Times;
+use plan::Times;
 
 // The kinds of record.
 const RING: u8 = 1;

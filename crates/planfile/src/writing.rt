@@ -9,7 +9,6 @@ ghost use Rattle.planfile.specs.Laying.{Wrote, laid};
 
 use crate::VERSION;
 use crate::records::Record;
-use crate::target::Times;
 use plan::{HighStream, LowStream, Master, Plan};
 use refusal::Refusal;
 
@@ -28,13 +27,7 @@ impl Encode for HighStream {
     ghost bytes = { λ s. record_bytes (high_record (stream_of s)) };
 
     fn put(&self, out: &mut [u8]) -> usize {
-        let times = Times {
-            cycle: self.cycle(),
-            deadline: self.deadline(),
-            generation: self.generation(),
-            delivery: self.delivery(),
-        };
-        Record::High(times).put(out)
+        Record::High(self.times()).put(out)
     }
 }
 

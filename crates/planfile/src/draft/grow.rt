@@ -7,9 +7,8 @@ ghost use Rattle.planfile.specs.Reading.{Masterless, front_records};
 
 use crate::draft::{Draft, Growing};
 use crate::records::Record;
-use crate::target::{Target, Times};
 use bounded::ArrayVec;
-use plan::{HIGHS, HighStream, LOWS, LowStream, MASTERS, Master, Plan};
+use plan::{HIGHS, HighStream, LOWS, LowStream, MASTERS, Master, Plan, Target, Times};
 use refusal::Refusal;
 
 impl Draft {
@@ -86,13 +85,7 @@ impl Growing {
         if self.last.highs().len() == HIGHS {
             return Err(Refusal::TooMany { at });
         }
-        let high = HighStream::new(
-            times.cycle,
-            times.deadline,
-            times.generation,
-            times.delivery,
-        )
-        .ok_or(Refusal::OutOfRange { at })?;
+        let high = HighStream::new(times).ok_or(Refusal::OutOfRange { at })?;
         let _ = self.last.add_high(high);
         Ok(Draft::Masters(self))
     }
