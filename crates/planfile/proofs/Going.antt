@@ -1,5 +1,5 @@
 -- The loop of reading: what becomes of a file of which a good front and the rest are known.
-use Rattle.std.proofs.Common.{◌≡◌, ℕ, ◌-◌, List, [], ◌++◌, length, sym, ap, ◌∙◌, subst, arith}
+use Rattle.std.proofs.Common.{◌≡◌, ℕ, ◌-◌, List, ◌++◌, length, sym, ap, ◌∙◌, subst, arith}
 use Rattle.std.proofs.lemmas.List.{append_assoc, append-nil, length-append, nil_from_length}
 use Rattle.refusal.specs.declared.Refusal.{Refusal}
 use Rattle.refusal.specs.declared.Refusal.TheVariants.{NoMaster}
@@ -20,7 +20,7 @@ pub goes_on : {file rest more : List ℕ} {f g : Front} {at : ℕ} → Behind fi
 goes_on {file} {rest} {more} {f} {g} b k =
     let longer : written g ≡ written f ++ record_bytes k.r = next_written f g k.r k.fits.next in
     let split : file ≡ written g ++ more =
-        b.split ∙ ap (λ x. written f ++ x) k.split ∙ sym (append_assoc (written f) (record_bytes k.r) more) ∙ ap (λ x. x ++ more) (sym longer) in
+    b.split ∙ ap (λ x. written f ++ x) k.split ∙ sym (append_assoc (written f) (record_bytes k.r) more) ∙ ap (λ x. x ++ more) (sym longer) in
     record {
       good = next_good f g k.r b.good k.fits.next k.fits.room k.fits.range;
       split = split;

@@ -14,9 +14,7 @@ use Rattle.plan.specs.Views.{station_of}
 use Rattle.plan.specs.declared.Master as plan
 use Rattle.plan.specs.Views.{told}
 use Rattle.plan.specs.declared.Times.{Times}
-use Rattle.planfile.specs.declared.draft.Draft.{Draft}
 use Rattle.planfile.specs.declared.draft.Growing.{Growing}
-use Rattle.planfile.specs.Drafts.{Grows, grown}
 use Rattle.planfile.specs.declared.records.Record.{Record}
 use Rattle.planfile.specs.declared.records.Record.TheVariants.{Ring, Master, High, Low}
 use Rattle.planfile.specs.Reading.{Front, Next, Room, Fits, Unfit}

@@ -5,25 +5,22 @@ ghost use Rattle.planfile.specs.Laying.{laid};
 
 use plan::Times;
 
-// The kinds of record.
+// The kinds of record, which stand in front of their bodies.
 const RING: u8 = 1;
+
 const MASTER: u8 = 2;
+
 const HIGH: u8 = 3;
+
 const LOW: u8 = 4;
 
 // What a record tells, in plain numbers that may still be out of range.
 #[derive(Clone, Copy)]
 pub enum Record {
-    Ring {
-        target: u32,
-    },
-    Master {
-        hop: u16,
-    },
+    Ring { target: u32 },
+    Master { hop: u16 },
     High(Times),
-    Low {
-        cycle: u16,
-    },
+    Low { cycle: u16 },
 }
 
 impl Record {

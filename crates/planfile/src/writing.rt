@@ -1,10 +1,10 @@
 // Writing a plan file: each record writer is handed the rest of the buffer behind the record before.
-ghost use Rattle.std.specs.Prelude.{◌≡◌, ℕ, ◌≤◌, List, [], ◌∷◌, ◌++◌, length};
+ghost use Rattle.std.specs.Prelude.{◌≡◌, ℕ, ◌≤◌, List, length};
 ghost use Rattle.std.specs.List.{flat_map};
 ghost use Rattle.plan.specs.Views.{cycle_of, net, station_of, stream_of};
 ghost use Rattle.planfile.specs.declared.TheConstants.{LONGEST};
 ghost use Rattle.planfile.specs.declared.records.Record.TheVariants.{Low};
-ghost use Rattle.planfile.specs.Format.{encoded, four, framed, high_record, record_bytes, station_bytes, streams_bytes, two};
+ghost use Rattle.planfile.specs.Format.{encoded, high_record, record_bytes, station_bytes};
 ghost use Rattle.planfile.specs.Laying.{Wrote, laid};
 
 use crate::VERSION;
@@ -35,10 +35,8 @@ impl Encode for LowStream {
     ghost bytes = { λ s. record_bytes (Low (cycle_of s)) };
 
     fn put(&self, out: &mut [u8]) -> usize {
-        Record::Low {
-            cycle: self.cycle(),
-        }
-        .put(out)
+        let cycle = self.cycle();
+        Record::Low { cycle }.put(out)
     }
 }
 
@@ -47,7 +45,8 @@ impl Encode for Master {
 
     // Its own record, and then its high streams before its low ones.
     fn put(&self, out: &mut [u8]) -> usize {
-        let mut at = Record::Master { hop: self.hop() }.put(out);
+        let hop = self.hop();
+        let mut at = Record::Master { hop }.put(out);
         at += put_all(&mut out[at..], self.highs());
         at += put_all(&mut out[at..], self.lows());
         at
@@ -79,7 +78,7 @@ fn master_size(master: &Master) -> usize
     5 + 13 * master.highs().len() + 5 * master.lows().len()
 }
 
-/// How many bytes the file of a plan has: at most 1,040.
+/// How many bytes the file of a plan has: at most `LONGEST`, which is 1,040.
 pub fn size(plan: &Plan) -> usize
     ensures value { result ≡ length (encoded (net plan.now)) }
     ensures most { result ≤ 1040 }
@@ -98,11 +97,9 @@ pub fn write(plan: &Plan, out: &mut [u8]) -> Result<usize, Refusal>
         return Err(Refusal::BufferTooShort { needed });
     }
     out[0] = VERSION;
-    let ring = Record::Ring {
-        target: plan.target(),
-    };
+    let target = plan.target();
     let mut at = 1;
-    at += ring.put(&mut out[at..]);
+    at += Record::Ring { target }.put(&mut out[at..]);
     at += put_all(&mut out[at..], plan.masters());
     Ok(at)
 }

@@ -1,12 +1,11 @@
 use Rattle.std.proofs.Common.{◌≡◌, List, ℕ, length, get_or, Ok, Err, Result, sym, ap, ◌∙◌, arith, MatchResult}
 use Rattle.refusal.specs.declared.Refusal.{Refusal}
-use Rattle.refusal.specs.declared.Refusal.TheVariants.{BadVersion}
 use Rattle.plan.specs.Net.{Net, NetInRange}
 use Rattle.plan.specs.Views.{net}
 use Rattle.plan.specs.declared.Plan.{Plan}
 use Rattle.plan.proofs.Ranges.{net_in_range}
 use Rattle.planfile.specs.Format.{encoded}
-use Rattle.planfile.specs.Reading.{Refused, Versioned}
+use Rattle.planfile.specs.Reading.{Refused}
 use Rattle.planfile.specs.Reading.Refused.{version}
 use Rattle.planfile.proofs.Once.{refused_once, accepted_not_refused, encoded_once}
 use Rattle.planfile.proofs.reading.read.Goals as goal

@@ -1,17 +1,8 @@
-use Rattle.std.proofs.Common.{refl, arith}
 use Rattle.planfile.proofs.Rows.{written_room, written_more, written_all}
 use Rattle.planfile.proofs.writing.put_all.Goals as goal
 
-pub loop-item-init : goal.loop-item-init
-loop-item-init g c = record { within = omega arith; room = c.requires; count = omega arith; begun = record { count = refl; bytes = refl } }
-
 pub put-at-requires : goal.put-at-requires
 put-at-requires g c = written_room c.loop-item.invariant c.item-item.result c.loop-item-test.true c.item-item.is
-
-pub overflow_add-at : goal.overflow_add-at
-overflow_add-at g c =
-    let next = written_more c.loop-item.invariant c.item-item.result c.loop-item-test.true c.item-item.is _ _ c.put-at.ensures.bytes c.put-at.ensures.value in
-    omega (arith, next.count, c.loop-item.auto.out, c.well_formed)
 
 pub loop-item-preserved : goal.loop-item-preserved
 loop-item-preserved g c = written_more c.loop-item.invariant c.item-item.result c.loop-item-test.true c.item-item.is _ _ c.put-at.ensures.bytes c.put-at.ensures.value

@@ -1,4 +1,4 @@
-use Rattle.std.proofs.Common.{rules, ◌<◌, length, ap, ◌∙◌, arith}
+use Rattle.std.proofs.Common.{◌<◌, length, ap, ◌∙◌, arith, rules}
 use Rattle.std.proofs.lemmas.Option.{MatchOption-at_some}
 use Rattle.plan.specs.Net.{with_low}
 use Rattle.plan.specs.Views.{station_of}
@@ -12,7 +12,7 @@ returns-then-lows-eq-LOWS c = search (rules, low_crowded, few_done)
 pub returns-in_err-low : goal.returns-in_err-low
 returns-in_err-low c =
     none_handed_on _ _ c.from_residual.result _ c.from_residual.ensures.1 c.in_err-low.ensures.ok_part c.in_err-low.ensures.value c.new.ensures
-    (low_beyond _ _ _ _ (few_done c.args.self) _ (station_in_range c.args.self.last).few_highs (omega (arith, c.lows.ensures.len, c.lows.ensures.bound, c.if-lows-eq-LOWS.false)))
+    (search (rules, low_beyond, few_done, station_in_range c.args.self.last))
 
 pub returns : goal.returns
 returns c =
