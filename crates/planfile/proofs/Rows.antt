@@ -14,8 +14,8 @@ use Rattle.plan.specs.declared.LowStream.{LowStream}
 use Rattle.plan.specs.declared.Master as plan
 use Rattle.planfile.specs.declared.records.Record.TheVariants.{Ring, Master, Low}
 use Rattle.planfile.specs.Format.{encoded, high_record, highs_bytes, lows_bytes, record_bytes, station_bytes, station_records, streams_bytes}
-use Rattle.planfile.specs.Laying.{laid}
-use Rattle.planfile.proofs.Laid.{Begun, Parts, rest, begun_fits, begun_room, begun_more}
+use Rattle.planfile.specs.Laying.{Put, laid}
+use Rattle.planfile.proofs.Laid.{Parts, rest, put_fits, put_room, put_more}
 
 flat_map-flat_map : {X Y A : Type 0} (f : Y → List A) (g : X → List Y) (xs : List X) → flat_map f (flat_map g xs) ≡ flat_map (λ x. flat_map f (g x)) xs
 flat_map-flat_map f g [] = refl
@@ -68,13 +68,13 @@ pub record Written {X : Type 0} (f : X → List ℕ) (xs : List X) (i at : ℕ) 
   pub within : i ≤ length xs
   pub room : length (flat_map f xs) ≤ length buffer
   pub count : at ≤ length now
-  pub begun : Begun (flat_map f (take i xs)) buffer now at
+  pub begun : Put (flat_map f (take i xs)) buffer now at
 
 module _ {X : Type 0} {f : X → List ℕ} {xs : List X} {i at : ℕ} {buffer now : List ℕ} (w : Written f xs i at buffer now) where
-  pub written_all : length xs ≤ i → Begun (flat_map f xs) buffer now at
+  pub written_all : length xs ≤ i → Put (flat_map f xs) buffer now at
   written_all over =
       let all : flat_map f (take i xs) ≡ flat_map f xs = ap (flat_map f) (take_all i xs over) in
-      record { count = w.begun.count ∙ ap length all; bytes = w.begun.bytes ∙ ap (λ bs. laid bs buffer) all }
+      record { count = w.begun.count ∙ ap length all; front = w.begun.front ∙ ap (λ bs. laid bs buffer) all }
 
   module _ (x : X) (l : i < length xs) (is : x ≡ get_or xs i x) where
     -- one more item
@@ -87,14 +87,14 @@ module _ {X : Type 0} {f : X → List ℕ} {xs : List X} {i at : ℕ} {buffer no
     fits = omega (arith, w.room, length-flat_map-take f xs i x l, ap (λ y. length (f y)) is, length-append (flat_map f (take i xs)) (f x))
 
     pub written_room : length (f x) ≤ length (rest now at)
-    written_room = begun_room w.begun (f x) fits
+    written_room = put_room w.begun (f x) fits
 
-    pub written_more : (after : List ℕ) (n : ℕ) → after ≡ laid (f x) (rest now at) → n ≡ length (f x) → Written f xs (i + 1) (at + n) buffer (put_mid at (length now - at) now after)
-    written_more after n wrote size =
-        let next : Begun (flat_map f (take i xs) ++ f x) buffer (put_mid at (length now - at) now after) (at + n) = begun_more w.begun (f x) after n size wrote in
+    pub written_more : (after : List ℕ) (n : ℕ) → Put (f x) (rest now at) after n → Written f xs (i + 1) (at + n) buffer (put_mid at (length now - at) now after)
+    written_more after n p =
+        let next : Put (flat_map f (take i xs) ++ f x) buffer (put_mid at (length now - at) now after) (at + n) = put_more w.begun (f x) after n p in
         record {
           within = omega arith;
           room = w.room;
-          count = begun_fits next fits;
-          begun = record { count = next.count ∙ ap length (sym more); bytes = next.bytes ∙ ap (λ bs. laid bs buffer) (sym more) };
+          count = put_fits next fits;
+          begun = record { count = next.count ∙ ap length (sym more); front = next.front ∙ ap (λ bs. laid bs buffer) (sym more) };
         }

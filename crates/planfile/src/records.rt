@@ -1,7 +1,7 @@
 // A record of a plan file.
 ghost use Rattle.std.specs.Prelude.{◌≡◌, ◌+◌, ◌<◌, ◌≤◌, length, MatchOption, ◌≢◌};
 ghost use Rattle.planfile.specs.Format.{contents, framed, record_bytes};
-ghost use Rattle.planfile.specs.Laying.{laid};
+ghost use Rattle.planfile.specs.Laying.{Put};
 
 use plan::Times;
 
@@ -51,8 +51,7 @@ impl Record {
     // Puts the record in front; the answer is how many bytes it has.
     pub fn put(self, out: &mut [u8]) -> usize
         requires { length (record_bytes self) ≤ length out.old }
-        ensures value { result ≡ length (record_bytes self) }
-        ensures bytes { out.new ≡ laid (record_bytes self) out.old }
+        ensures { Put (record_bytes self) out.old out.new result }
     {
         match self {
             Record::Ring { target } => {
@@ -82,8 +81,7 @@ impl Record {
 fn put_framed<const N: usize>(out: &mut [u8], contents: [u8; N]) -> usize
     requires short { N < 65536 }
     requires room { N + 2 ≤ length out.old }
-    ensures value { result ≡ N + 2 }
-    ensures bytes { out.new ≡ laid (framed contents.entry) out.old }
+    ensures { Put (framed contents.entry) out.old out.new result }
 {
     out[..2].copy_from_slice(&(N as u16).to_be_bytes());
     out[2..N + 2].copy_from_slice(&contents);

@@ -5,7 +5,7 @@ ghost use Rattle.plan.specs.Views.{cycle_of, net, station_of, stream_of};
 ghost use Rattle.planfile.specs.declared.TheConstants.{LONGEST};
 ghost use Rattle.planfile.specs.declared.records.Record.TheVariants.{Low};
 ghost use Rattle.planfile.specs.Format.{encoded, high_record, record_bytes, station_bytes};
-ghost use Rattle.planfile.specs.Laying.{Wrote, laid};
+ghost use Rattle.planfile.specs.Laying.{Put, Wrote};
 
 use crate::VERSION;
 use crate::records::Record;
@@ -19,8 +19,7 @@ trait Encode {
     // Puts its bytes in front; the answer is how many they are.
     fn put(&self, out: &mut [u8]) -> usize
         requires { length (bytes self.now) ≤ length out.old }
-        ensures value { result ≡ length (bytes self.now) }
-        ensures bytes { out.new ≡ laid (bytes self.now) out.old };
+        ensures { Put (bytes self.now) out.old out.new result };
 }
 
 impl Encode for HighStream {
@@ -56,8 +55,7 @@ impl Encode for Master {
 // Puts the bytes of all items in front, one behind the other.
 fn put_all<T: Encode>(out: &mut [u8], items: &[T]) -> usize
     requires { length (flat_map T.Encode.bytes items.now) ≤ length out.old }
-    ensures value { result ≡ length (flat_map T.Encode.bytes items.now) }
-    ensures bytes { out.new ≡ laid (flat_map T.Encode.bytes items.now) out.old }
+    ensures put { Put (flat_map T.Encode.bytes items.now) out.old out.new result }
     ensures within { result ≤ length out.new }
 {
     let mut at = 0;

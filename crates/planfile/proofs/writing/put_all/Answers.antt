@@ -5,9 +5,9 @@ pub put-at-requires : goal.put-at-requires
 put-at-requires g c = written_room c.loop-item.invariant c.item-item.result c.loop-item-test.true c.item-item.is
 
 pub loop-item-preserved : goal.loop-item-preserved
-loop-item-preserved g c = written_more c.loop-item.invariant c.item-item.result c.loop-item-test.true c.item-item.is _ _ c.put-at.ensures.bytes c.put-at.ensures.value
+loop-item-preserved g c = written_more c.loop-item.invariant c.item-item.result c.loop-item-test.true c.item-item.is _ _ c.put-at.ensures
 
 pub returns : goal.returns
 returns g c =
     let all = written_all c.loop-item.invariant c.loop-item-test.false in
-    record { value = all.count; bytes = all.bytes; within = c.loop-item.invariant.count }
+    record { put = all; within = c.loop-item.invariant.count }
