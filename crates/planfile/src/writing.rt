@@ -55,8 +55,7 @@ impl Encode for Master {
 // Puts the bytes of all items in front, one behind the other.
 fn put_all<T: Encode>(out: &mut [u8], items: &[T]) -> usize
     requires { length (flat_map T.Encode.bytes items.now) ≤ length out.old }
-    ensures put { Put (flat_map T.Encode.bytes items.now) out.old out.new result }
-    ensures within { result ≤ length out.new }
+    ensures { Put (flat_map T.Encode.bytes items.now) out.old out.new result }
 {
     let mut at = 0;
     for item in items {

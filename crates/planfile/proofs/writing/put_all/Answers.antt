@@ -8,6 +8,4 @@ pub loop-item-preserved : goal.loop-item-preserved
 loop-item-preserved g c = written_more c.loop-item.invariant c.item-item.result c.loop-item-test.true c.item-item.is _ _ c.put-at.ensures
 
 pub returns : goal.returns
-returns g c =
-    let all = written_all c.loop-item.invariant c.loop-item-test.false in
-    record { put = all; within = c.loop-item.invariant.count }
+returns g c = written_all c.loop-item.invariant c.loop-item-test.false

@@ -10,8 +10,8 @@ put_all-at-requires c = second_room (station_parts _ _ (items c.args.self.now.lo
 
 pub put_all-at-requires-2 : goal.put_all-at-requires-2
 put_all-at-requires-2 c =
-    third_room (station_parts _ _ _ (station_of c.args.self.now) c.hop-hop.ensures c.highs.ensures.value c.lows.ensures.value) c.requires c.put-at.ensures c.put_all-at.ensures.put
+    third_room (station_parts _ _ _ (station_of c.args.self.now) c.hop-hop.ensures c.highs.ensures.value c.lows.ensures.value) c.requires c.put-at.ensures c.put_all-at.ensures
 
 pub returns : goal.returns
 returns c =
-    all_put (station_parts _ _ _ (station_of c.args.self.now) c.hop-hop.ensures c.highs.ensures.value c.lows.ensures.value) c.requires c.put-at.ensures c.put_all-at.ensures.put c.put_all-at-2.ensures.put
+    all_put (station_parts _ _ _ (station_of c.args.self.now) c.hop-hop.ensures c.highs.ensures.value c.lows.ensures.value) c.requires c.put-at.ensures c.put_all-at.ensures c.put_all-at-2.ensures
