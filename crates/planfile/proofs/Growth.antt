@@ -1,11 +1,6 @@
 -- One record more behind a plan in the making: what it takes to fit, and what it cannot be.
-use Rattle.std.proofs.Common.{◌≡◌, ℕ, ◌<◌, ◌≤◌, List, [], ◌∷◌, ◌++◌, map, length, take, Ok, Err, Result, None, Option, sym, refl, ap, subst, arith, MatchResult}
+use Rattle.std.proofs.Common.{◌≡◌, ℕ, ◌<◌, ◌≤◌, List, [], ◌∷◌, ◌++◌, map, length, take, Ok, Err, Result, sym, refl, ap, subst, arith, MatchResult}
 use Rattle.std.proofs.lemmas.List.{length_push, length-map, nil_from_length}
-use Rattle.std.specs.Option.{MatchOption, ok_or}
-use Rattle.std.specs.Result.{IsErrAnd}
-use Rattle.std.proofs.lemmas.Option.{MatchOption-at_none}
-use Rattle.std.proofs.lemmas.Result.{err_from_is_err_and}
-use Rattle.refusal.specs.declared.Refusal.{Refusal}
 use Rattle.refusal.specs.declared.Refusal.TheVariants.{BadRecord, TooMany, OutOfRange}
 use Rattle.plan.specs.Net.{Station, bare, with_high, with_low, TargetInRange, HopInRange, CycleInRange, StreamInRange}
 use Rattle.bounded.specs.Items.{items}
@@ -26,17 +21,6 @@ use Rattle.planfile.specs.Reading.Unfit.{misplaced, crowded, beyond}
 pub taken : {X Y S : Type 0} {Q : Y → Type 0} (r : Result X Y) → MatchResult r (λ _. S) Q → ((y : Y) → Q y → ⊥) → S
 taken (Ok x) s q = s
 taken (Err y) s q = absurd (q y s)
-
--- where a `?` ends the function
-pub handed_on : {T : Type 0} (P : T → Type 0) (Q : Refusal → Type 0) (out : Result T Refusal) (d : Refusal) → IsErrAnd out (λ e. e ≡ d) → Q d → MatchResult out P Q
-handed_on P Q out d ends q = let p = err_from_is_err_and out ends in rw (p.1, p.2) q
-
--- where an `o.ok_or(e)?` does
-pub none_handed_on : {T X N : Type 0} (P : T → Type 0) (Q : Refusal → Type 0) (out : Result T Refusal) (S : X → Type 0) {o : Option X} {d e : Refusal}
-    → IsErrAnd out (λ x. x ≡ d) → o ≡ None → Err d ≡ ok_or o e → MatchOption o N S → (N → Q e) → MatchResult out P Q
-none_handed_on {N = N} P Q out S {o} {d} {e} ends none value is q =
-    let same : e ≡ d = grind arith in
-    handed_on P Q out d ends (subst Q same (q (MatchOption-at_none N S none is)))
 
 -- only the ring record may come first, and only then
 pub start_misplaced : (r : Record) (at : ℕ) → ((t : ℕ) → r ≡ Ring t → ⊥) → Unfit start r at (BadRecord at)

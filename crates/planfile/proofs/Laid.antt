@@ -12,9 +12,6 @@ module _ {bs buffer now : List ℕ} {n : ℕ} (b : Put bs buffer now n) where
   rest_of : rest now n ≡ drop (length bs) buffer
   rest_of = take_rest now n ∙ ap (drop n) b.front ∙ drop_at bs (drop (length bs) buffer) n (sym b.count)
 
-  pub put_fits : length bs ≤ length buffer → n ≤ length now
-  put_fits room = omega (arith, b.count, ap length b.front, length-append bs (drop (length bs) buffer))
-
   module _ (cs : List ℕ) where
     pub put_room : length (bs ++ cs) ≤ length buffer → length cs ≤ length (rest now n)
     put_room room = omega (arith, ap length rest_of, length-drop (length bs) buffer, length-append bs cs)

@@ -15,7 +15,7 @@ use Rattle.plan.specs.declared.Master as plan
 use Rattle.planfile.specs.declared.records.Record.TheVariants.{Ring, Master, Low}
 use Rattle.planfile.specs.Format.{encoded, high_record, highs_bytes, lows_bytes, record_bytes, station_bytes, station_records, streams_bytes}
 use Rattle.planfile.specs.Laying.{Put, laid}
-use Rattle.planfile.proofs.Laid.{Parts, rest, put_fits, put_room, put_more}
+use Rattle.planfile.proofs.Laid.{Parts, rest, put_room, put_more}
 
 flat_map-flat_map : {X Y A : Type 0} (f : Y → List A) (g : X → List Y) (xs : List X) → flat_map f (flat_map g xs) ≡ flat_map (λ x. flat_map f (g x)) xs
 flat_map-flat_map f g [] = refl
@@ -67,7 +67,6 @@ stations_size (m ∷ ms) =
 pub record Written {X : Type 0} (f : X → List ℕ) (xs : List X) (i at : ℕ) (buffer now : List ℕ) : Type 0 where
   pub within : i ≤ length xs
   pub room : length (flat_map f xs) ≤ length buffer
-  pub count : at ≤ length now
   pub begun : Put (flat_map f (take i xs)) buffer now at
 
 module _ {X : Type 0} {f : X → List ℕ} {xs : List X} {i at : ℕ} {buffer now : List ℕ} (w : Written f xs i at buffer now) where
@@ -95,6 +94,5 @@ module _ {X : Type 0} {f : X → List ℕ} {xs : List X} {i at : ℕ} {buffer no
         record {
           within = omega arith;
           room = w.room;
-          count = put_fits next fits;
           begun = record { count = next.count ∙ ap length (sym more); front = next.front ∙ ap (λ bs. laid bs buffer) (sym more) };
         }

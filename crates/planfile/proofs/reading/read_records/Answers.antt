@@ -3,7 +3,7 @@ use Rattle.std.proofs.lemmas.Bool.{eqb-true}
 use Rattle.std.proofs.lemmas.Result.{MatchResult-weaker}
 use Rattle.planfile.specs.Reading.Refused.{stuck}
 use Rattle.planfile.proofs.Going.{goes_on, whole, no_master}
-use Rattle.planfile.proofs.Growth.{handed_on}
+use Rattle.planfile.proofs.Exits.{handed_on}
 use Rattle.planfile.proofs.reading.read_records.Goals as goal
 
 pub returns-in_err-draft : goal.returns-in_err-draft

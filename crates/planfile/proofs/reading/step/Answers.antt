@@ -2,7 +2,7 @@ use Rattle.std.proofs.Common.{◌≡◌, ◌++◌, sym, ap, ◌∙◌}
 use Rattle.std.proofs.lemmas.Option.{MatchOption-at_some}
 use Rattle.planfile.specs.Format.{framed, record_bytes}
 use Rattle.planfile.specs.Reading.Stuck.{cut, unknown, unfit}
-use Rattle.planfile.proofs.Growth.{handed_on, none_handed_on}
+use Rattle.planfile.proofs.Exits.{handed_on, none_handed_on}
 use Rattle.planfile.proofs.reading.step.Goals as goal
 
 pub returns-in_err-contents : goal.returns-in_err-contents

@@ -1,7 +1,8 @@
 use Rattle.std.proofs.Common.{map, ap, arith}
 use Rattle.std.proofs.lemmas.Option.{MatchOption-at_some}
 use Rattle.plan.specs.Views.{station_of}
-use Rattle.planfile.proofs.Growth.{none_handed_on, start_misplaced, first_misplaced, ring_misplaced, ring_beyond, ring_fits, first_beyond, first_fits}
+use Rattle.planfile.proofs.Exits.{none_handed_on}
+use Rattle.planfile.proofs.Growth.{start_misplaced, first_misplaced, ring_misplaced, ring_beyond, ring_fits, first_beyond, first_fits}
 use Rattle.planfile.proofs.draft.Draft.grow.Goals as goal
 
 pub returns-in_default : goal.returns-in_default

@@ -3,7 +3,8 @@ use Rattle.std.proofs.lemmas.Bool.{eqb-true, eqb-false}
 use Rattle.std.proofs.lemmas.Option.{MatchOption-at_some}
 use Rattle.plan.specs.Net.{with_high}
 use Rattle.plan.specs.Views.{station_of}
-use Rattle.planfile.proofs.Growth.{taken, few_done, none_handed_on, high_misplaced, high_crowded, high_beyond, high_fits}
+use Rattle.planfile.proofs.Exits.{none_handed_on}
+use Rattle.planfile.proofs.Growth.{taken, few_done, high_misplaced, high_crowded, high_beyond, high_fits}
 use Rattle.planfile.proofs.draft.Growing.add_high.Goals as goal
 
 pub returns-then-not-is_empty : goal.returns-then-not-is_empty

@@ -3,7 +3,8 @@ use Rattle.std.proofs.lemmas.Option.{MatchOption-at_some}
 use Rattle.plan.specs.Net.{with_low}
 use Rattle.plan.specs.Views.{station_of}
 use Rattle.plan.proofs.Ranges.{station_in_range}
-use Rattle.planfile.proofs.Growth.{taken, few_done, none_handed_on, low_crowded, low_beyond, low_fits}
+use Rattle.planfile.proofs.Exits.{none_handed_on}
+use Rattle.planfile.proofs.Growth.{taken, few_done, low_crowded, low_beyond, low_fits}
 use Rattle.planfile.proofs.draft.Growing.add_low.Goals as goal
 
 pub returns-then-lows-eq-LOWS : goal.returns-then-lows-eq-LOWS

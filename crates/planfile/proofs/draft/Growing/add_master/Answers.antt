@@ -3,7 +3,8 @@ use Rattle.std.proofs.lemmas.List.{length-map}
 use Rattle.std.proofs.lemmas.Option.{MatchOption-at_some}
 use Rattle.bounded.specs.Items.{items}
 use Rattle.plan.specs.Views.{station_of}
-use Rattle.planfile.proofs.Growth.{few_done, pushed, none_handed_on, master_crowded, master_beyond, master_fits}
+use Rattle.planfile.proofs.Exits.{none_handed_on}
+use Rattle.planfile.proofs.Growth.{few_done, pushed, master_crowded, master_beyond, master_fits}
 use Rattle.planfile.proofs.draft.Growing.add_master.Goals as goal
 
 pub returns-then-len-eq-MASTERS : goal.returns-then-len-eq-MASTERS
