@@ -1,8 +1,8 @@
 -- A record in range, which there is room for, keeps a front good.
-use Rattle.std.proofs.Common.{ℕ, ◌<◌, ◌≤◌, List, [], ◌∷◌, ◌++◌, length, arith}
+use Rattle.std.proofs.Common.{ℕ, ◌<◌, ◌≤◌, List, [], ◌∷◌, ◌++◌, length, Some, refl, arith}
 use Rattle.std.specs.List.{AllByRecursion}
 use Rattle.std.proofs.lemmas.List.{length_push}
-use Rattle.std.proofs.ByRecursion.{All-push}
+use Rattle.std.proofs.lemmas.List.Elements.{All-from_recursion, All-pop, All-push, recursion_from_All}
 use Rattle.plan.specs.Net.{Stream, Station, bare, with_high, with_low, planned, TargetInRange, HopInRange, CycleInRange, StreamInRange, StationInRange, NetInRange}
 use Rattle.planfile.specs.declared.records.Record.{Record}
 use Rattle.plan.specs.Views.{told}
@@ -16,9 +16,14 @@ pub record Parts (t : ℕ) (done : List Station) (m : Station) : Type 0 where
   pub last : StationInRange m
   pub few : length done < 8
 
-all_from_push : {X : Type 0} (P : X → Type 0) (xs : List X) (x : X) → AllByRecursion P (xs ++ x ∷ []) → AllByRecursion P xs × P x
-all_from_push P [] x h = (tt, h.0)
-all_from_push P (y ∷ xs) x h = let k = all_from_push P xs x h.1 in ((h.0, k.0), k.1)
+module _ {X : Type 0} (P : X → Type 0) (xs : List X) (x : X) where
+  all_push : AllByRecursion P xs → P x → AllByRecursion P (xs ++ x ∷ [])
+  all_push h p = recursion_from_All P (xs ++ x ∷ []) (All-push P xs x (All-from_recursion P xs h) p)
+
+  all_from_push : AllByRecursion P (xs ++ x ∷ []) → AllByRecursion P xs × P x
+  all_from_push h =
+      let k = All-pop P (xs ++ x ∷ []) xs (Some x) refl (All-from_recursion P (xs ++ x ∷ []) h) in
+      (recursion_from_All P xs k.0, k.1)
 
 pub apart : (t : ℕ) (done : List Station) (m : Station) → NetInRange (planned t (done ++ m ∷ [])) → Parts t done m
 apart t done m h =
@@ -30,7 +35,7 @@ together t done m p = record {
   target = p.target;
   some = omega (arith, length_push done m);
   few = omega (arith, length_push done m);
-  each = All-push StationInRange done m p.each_done p.last;
+  each = all_push StationInRange done m p.each_done p.last;
 }
 
 -- another master in the place of the last
@@ -48,7 +53,7 @@ high_in_range m s few h k = record {
   hop = k.hop;
   few_highs = few;
   few_lows = k.few_lows;
-  each_high = All-push StreamInRange m.highs s k.each_high h;
+  each_high = all_push StreamInRange m.highs s k.each_high h;
   each_low = k.each_low;
 }
 
@@ -58,7 +63,7 @@ low_in_range m c few h k = record {
   few_highs = k.few_highs;
   few_lows = few;
   each_high = k.each_high;
-  each_low = All-push CycleInRange m.lows c k.each_low h;
+  each_low = all_push CycleInRange m.lows c k.each_low h;
 }
 
 pub next_good : (f g : Front) (r : Record) → Good f → Next f r g → Room g → InRange r → Good g
