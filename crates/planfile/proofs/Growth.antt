@@ -1,10 +1,9 @@
 -- One record more behind a plan in the making: what it takes to fit, and what it cannot be.
-use Rattle.std.proofs.Common.{◌≡◌, ℕ, ◌<◌, ◌≤◌, List, [], ◌∷◌, ◌++◌, map, length, take, Ok, Err, Result, sym, refl, ap, subst, arith, MatchResult}
-use Rattle.std.proofs.lemmas.List.{length_push, length-map, nil_from_length}
+use Rattle.std.proofs.Common.{◌≡◌, ℕ, ◌<◌, ◌≤◌, List, [], ◌∷◌, ◌++◌, map, length, sym, refl, ap, ◌∙◌, subst, arith}
+use Rattle.std.proofs.lemmas.List.{length_push, length-map, map_push, nil_from_length}
 use Rattle.refusal.specs.declared.Refusal.TheVariants.{BadRecord, TooMany, OutOfRange}
 use Rattle.plan.specs.Net.{Station, bare, with_high, with_low, TargetInRange, HopInRange, CycleInRange, StreamInRange}
 use Rattle.bounded.specs.Items.{items}
-use Rattle.bounded.proofs.Pushes.{shows_push}
 use Rattle.plan.specs.Views.{station_of}
 use Rattle.plan.specs.declared.Master as plan
 use Rattle.plan.specs.Views.{told}
@@ -16,11 +15,6 @@ use Rattle.planfile.specs.Reading.{Front, Next, Room, Fits, Unfit}
 use Rattle.planfile.specs.Reading.Front.{start, ringed, growing}
 use Rattle.planfile.specs.Reading.Next.{ring, first, master, high, low}
 use Rattle.planfile.specs.Reading.Unfit.{misplaced, crowded, beyond}
-
--- a call that could only be refused for a reason that does not hold was not
-pub taken : {X Y S : Type 0} {Q : Y → Type 0} (r : Result X Y) → MatchResult r (λ _. S) Q → ((y : Y) → Q y → ⊥) → S
-taken (Ok x) s q = s
-taken (Err y) s q = absurd (q y s)
 
 -- only the ring record may come first, and only then
 pub start_misplaced : (r : Record) (at : ℕ) → ((t : ℕ) → r ≡ Ring t → ⊥) → Unfit start r at (BadRecord at)
@@ -117,5 +111,5 @@ module _ (g : Growing) where
   few_done = omega (arith, length-map (items g.done) station_of, g.room)
 
   -- its masters, with the last one pushed
-  pub pushed : (ms : List plan.Master) → ms ≡ take 8 (items g.done ++ g.last ∷ []) → map station_of ms ≡ map station_of (items g.done) ++ station_of g.last ∷ []
-  pushed ms e = shows_push station_of 8 (items g.done) ms g.last e few_done
+  pub pushed : (ms : List plan.Master) → ms ≡ items g.done ++ g.last ∷ [] → map station_of ms ≡ map station_of (items g.done) ++ station_of g.last ∷ []
+  pushed ms e = ap (map station_of) e ∙ map_push station_of (items g.done) g.last

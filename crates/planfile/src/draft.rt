@@ -8,6 +8,7 @@ use plan::{MASTERS, Master, Target};
 mod grow;
 
 // A plan in the making: the masters that are done, and the last, to which streams may still come.
+// Fewer than 8 are done, so that there is room for the last.
 #[derive(Clone, Copy)]
 pub struct Growing {
     target: Target,

@@ -56,7 +56,7 @@ impl Growing {
             mut done,
             last,
         } = self;
-        let _ = done.push(last);
+        done.push(last).unwrap();
         Plan::of(target.into(), done).unwrap()
     }
 
@@ -68,7 +68,7 @@ impl Growing {
             mut done,
             last,
         } = self;
-        let _ = done.push(last);
+        done.push(last).unwrap();
         if done.len() == MASTERS {
             return Err(Refusal::TooMany { at });
         }
@@ -86,7 +86,7 @@ impl Growing {
             return Err(Refusal::TooMany { at });
         }
         let high = HighStream::new(times).ok_or(Refusal::OutOfRange { at })?;
-        let _ = self.last.add_high(high);
+        self.last.add_high(high).unwrap();
         Ok(Draft::Masters(self))
     }
 
@@ -97,7 +97,7 @@ impl Growing {
             return Err(Refusal::TooMany { at });
         }
         let low = LowStream::new(cycle).ok_or(Refusal::OutOfRange { at })?;
-        let _ = self.last.add_low(low);
+        self.last.add_low(low).unwrap();
         Ok(Draft::Masters(self))
     }
 }

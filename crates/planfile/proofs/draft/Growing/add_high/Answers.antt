@@ -1,10 +1,11 @@
-use Rattle.std.proofs.Common.{◌≡◌, ◌<◌, length, sym, ap, ◌∙◌, arith}
+use Rattle.std.proofs.Common.{◌≡◌, length, sym, ap, ◌∙◌, arith}
 use Rattle.std.proofs.lemmas.Bool.{eqb-true, eqb-false}
 use Rattle.std.proofs.lemmas.Option.{MatchOption-at_some}
+use Rattle.std.proofs.lemmas.Result.{MatchResult-at_ok}
 use Rattle.plan.specs.Net.{with_high}
 use Rattle.plan.specs.Views.{station_of}
 use Rattle.planfile.proofs.Exits.{none_handed_on}
-use Rattle.planfile.proofs.Growth.{taken, few_done, high_misplaced, high_crowded, high_beyond, high_fits}
+use Rattle.planfile.proofs.Growth.{few_done, high_misplaced, high_crowded, high_beyond, high_fits}
 use Rattle.planfile.proofs.draft.Growing.add_high.Goals as goal
 
 pub returns-then-not-is_empty : goal.returns-then-not-is_empty
@@ -27,7 +28,6 @@ pub returns : goal.returns
 returns c =
     let m = station_of c.args.self.last in
     let none : length c.lows.result.now ≡ 0 = eqb-true _ _ (sym c.if-not-is_empty.ensures) in
-    let room : length m.highs < 8 = omega (arith, c.highs.ensures.len, c.highs.ensures.bound, c.if-highs-eq-HIGHS.false) in
     let made = MatchOption-at_some _ _ _ c.in_ok-high.ensures.ok_part c.new.ensures in
-    let added = taken c.add_high.result c.add_high.ensures (λ _ full. omega (arith, room, full.0)) in
-    high_fits _ 0 _ _ (few_done c.args.self) _ (sym c.lows.ensures.len ∙ none) _ (added.1 ∙ ap (with_high m) made.1) room made.0
+    let added = MatchResult-at_ok _ _ _ c.unwrap.ensures c.add_high.ensures in
+    high_fits _ 0 _ _ (few_done c.args.self) _ (sym c.lows.ensures.len ∙ none) _ (added.1 ∙ ap (with_high m) made.1) added.0 made.0

@@ -1,10 +1,11 @@
-use Rattle.std.proofs.Common.{◌<◌, length, ap, ◌∙◌, arith, rules}
+use Rattle.std.proofs.Common.{ap, ◌∙◌, rules}
 use Rattle.std.proofs.lemmas.Option.{MatchOption-at_some}
+use Rattle.std.proofs.lemmas.Result.{MatchResult-at_ok}
 use Rattle.plan.specs.Net.{with_low}
 use Rattle.plan.specs.Views.{station_of}
 use Rattle.plan.proofs.Ranges.{station_in_range}
 use Rattle.planfile.proofs.Exits.{none_handed_on}
-use Rattle.planfile.proofs.Growth.{taken, few_done, low_crowded, low_beyond, low_fits}
+use Rattle.planfile.proofs.Growth.{few_done, low_crowded, low_beyond, low_fits}
 use Rattle.planfile.proofs.draft.Growing.add_low.Goals as goal
 
 pub returns-then-lows-eq-LOWS : goal.returns-then-lows-eq-LOWS
@@ -17,7 +18,6 @@ returns-in_err-low c =
 
 pub returns : goal.returns
 returns c =
-    let room : length (station_of c.args.self.last).lows < 4 = omega (arith, c.lows.ensures.len, c.lows.ensures.bound, c.if-lows-eq-LOWS.false) in
     let made = MatchOption-at_some _ _ _ c.in_ok-low.ensures.ok_part c.new.ensures in
-    let added = taken c.add_low.result c.add_low.ensures (λ _ full. omega (arith, room, full.0)) in
-    low_fits _ 0 _ _ (few_done c.args.self) _ _ (added.1 ∙ ap (with_low (station_of c.args.self.last)) made.1) (station_in_range c.args.self.last).few_highs room made.0
+    let added = MatchResult-at_ok _ _ _ c.unwrap.ensures c.add_low.ensures in
+    low_fits _ 0 _ _ (few_done c.args.self) _ _ (added.1 ∙ ap (with_low (station_of c.args.self.last)) made.1) (station_in_range c.args.self.last).few_highs added.0 made.0
