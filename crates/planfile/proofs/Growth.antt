@@ -4,9 +4,8 @@ use Rattle.std.proofs.lemmas.List.{length_push, length-map, map_push, nil_from_l
 use Rattle.refusal.specs.declared.Refusal.TheVariants.{BadRecord, TooMany, OutOfRange}
 use Rattle.plan.specs.Net.{Station, bare, with_high, with_low, TargetInRange, HopInRange, CycleInRange, StreamInRange}
 use Rattle.bounded.specs.Items.{items}
-use Rattle.plan.specs.Views.{station_of}
+use Rattle.plan.specs.Views.{station_of, told}
 use Rattle.plan.specs.declared.Master as plan
-use Rattle.plan.specs.Views.{told}
 use Rattle.plan.specs.declared.Times.{Times}
 use Rattle.planfile.specs.declared.draft.Growing.{Growing}
 use Rattle.planfile.specs.declared.records.Record.{Record}

@@ -1,5 +1,6 @@
 // One record more: each call looks at the order first, then at the room, then at the ranges.
-ghost use Rattle.std.specs.Prelude.{◌≡◌, MatchResult};
+ghost use Rattle.std.specs.Prelude.{◌≡◌, [], ◌∷◌, ◌++◌, MatchResult};
+ghost use Rattle.bounded.specs.Items.{items};
 ghost use Rattle.plan.specs.Views.{net};
 ghost use Rattle.planfile.specs.Format.{records};
 ghost use Rattle.planfile.specs.Drafts.{Grows, front, grown};
@@ -47,32 +48,31 @@ impl Draft {
 }
 
 impl Growing {
+    // All its masters, the last one behind those that are done.
+    fn masters(&self) -> ArrayVec<Master, MASTERS>
+        ensures { items result ≡ items self.now.done ++ self.now.last ∷ [] }
+    {
+        let mut masters = self.done;
+        masters.push(self.last).unwrap();
+        masters
+    }
+
     // The plan of all its masters.
     fn finish(self) -> Plan
         ensures { front_records (grown self) ≡ records (net result) }
     {
-        let Growing {
-            target,
-            mut done,
-            last,
-        } = self;
-        done.push(last).unwrap();
-        Plan::of(target.into(), done).unwrap()
+        Plan::of(self.target.into(), self.masters()).unwrap()
     }
 
     fn add_master(self, hop: u16, at: usize) -> Result<Draft, Refusal>
         ensures { Grows (grown self) (Record.Master hop) at result }
     {
-        let Growing {
-            target,
-            mut done,
-            last,
-        } = self;
-        done.push(last).unwrap();
+        let done = self.masters();
         if done.len() == MASTERS {
             return Err(Refusal::TooMany { at });
         }
         let last = Master::new(hop).ok_or(Refusal::OutOfRange { at })?;
+        let target = self.target;
         Ok(Draft::Masters(Growing { target, done, last }))
     }
 
