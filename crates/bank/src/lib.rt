@@ -66,9 +66,16 @@ pub trait Queue: Copy {
     fn new(streams: StreamCount) -> Self
         ensures { starts streams.count result };
 
+    /// How many streams it has, as a count.
+    fn streams(&self) -> StreamCount
+        ensures { result.count ≡ (line self.now).size };
+
     /// How many streams it has.
     fn size(&self) -> usize
-        ensures { result ≡ (line self.now).size };
+        ensures { result ≡ (line self.now).size }
+    {
+        self.streams().get()
+    }
 
     /// The most takes until a stream that is put now is given.
     fn turns(&self, stream: usize) -> usize
