@@ -1,8 +1,8 @@
 -- New queues, and what a bank of new queues means.
 use Rattle.std.proofs.Common.{◌≡◌, ℕ, zero, suc, ◌+◌, ◌<◌, ◌≤◌, List, None, sym, refl, ap, ◌∙◌, subst, ⊎_elim, add-one, arith}
-use Rattle.std.proofs.lemmas.Option.{slice_get_past}
+use Rattle.std.proofs.lemmas.Bool.Decides.{nat_tests}
 use Rattle.std.proofs.lemmas.Bool.{cases_eq, cases_lt}
-use Rattle.bank.specs.ByMaster.{of_master, Placed, values}
+use Rattle.bank.specs.ByMaster.{of_master, Placed}
 use Rattle.bank.specs.Eight.{AsNew, Fresh, line_of, queue_of, Shaped, size_at}
 use Rattle.bank.specs.Meaning.{Idle, Line, Master}
 use Rattle.bank.specs.declared.PerMaster.{PerMaster}
@@ -29,7 +29,7 @@ module _ {Q : Type 0} (starts : ℕ → Q → Type 0) (ns : List ℕ) where
 -- outside the masters there is no queue
 no_queue : {Q : Type 0} (b : QueueBank Q) (k : ℕ) → (Master k → ⊥) → queue_of b k ≡ None
 no_queue b zero n = refl
-no_queue b (suc k) n = slice_get_past (values b.queues) k (⊎_elim (λ l. absurd (n (omega arith, omega arith))) (λ g. g) (cases_lt k 8))
+no_queue b (suc k) n = grind (arith, nat_tests)
 
 -- new queues have their sizes, and nothing waits in them
 module _ {Q : Type 0} (line : Q → Line) (starts : ℕ → Q → Type 0) (law : (n : ℕ) (q : Q) → starts n q → ((line q).size ≡ n) × Idle (line q)) (sizes : ℕ → ℕ) (b : QueueBank Q) (new : Shaped starts sizes b) where

@@ -57,24 +57,19 @@ impl<Q: Queue> Bank for QueueBank<Q> {
     ghost lawful = { Prim.search rules };
 
     fn size(&self, master: usize) -> usize {
-        match self.queues.get(master) {
-            Some(queue) => queue.size(),
-            None => 0,
-        }
+        self.queues.get(master).map_or(0, |queue| queue.size())
     }
 
     fn turns(&self, master: usize, stream: usize) -> usize {
-        match self.queues.get(master) {
-            Some(queue) => queue.turns(stream),
-            None => 0,
-        }
+        self.queues
+            .get(master)
+            .map_or(0, |queue| queue.turns(stream))
     }
 
     fn waits(&self, master: usize, stream: usize) -> bool {
-        match self.queues.get(master) {
-            Some(queue) => queue.waits(stream),
-            None => false,
-        }
+        self.queues
+            .get(master)
+            .is_some_and(|queue| queue.waits(stream))
     }
 
     fn put(&mut self, master: usize, stream: usize) -> bool {
@@ -87,9 +82,7 @@ impl<Q: Queue> Bank for QueueBank<Q> {
     }
 
     fn take(&mut self, master: usize) -> Option<usize> {
-        let Some(mut queue) = self.queues.get(master) else {
-            return None;
-        };
+        let mut queue = self.queues.get(master)?;
         let given = queue.take();
         self.queues.set(master, queue);
         given

@@ -3,7 +3,7 @@
 // queues, one for each master.
 #![tactic(auto)]
 
-ghost use Rattle.std.specs.Prelude.{◌≡◌, ℕ, ◌≤◌, Bool, Option, nat_lt};
+ghost use Rattle.std.specs.Prelude.{◌≡◌, ℕ, ◌≤◌, Bool, Option, nat_lt, length};
 ghost use Rattle.bank.specs.Meaning.{Idle, Lawful, Line, LinePut, LineTake, Meaning, Orderly, Put, Take};
 
 mod eight;
@@ -115,16 +115,8 @@ pub struct QueueBank<Q> {
     queues: PerMaster<Q>,
 }
 
-// One value for each of the eight masters. (Eight fields, because an earlier toolchain made no proof
-// of an `impl Bank` for a type that holds an array of a type parameter.)
+// One value for each of the eight masters.
 #[derive(Clone, Copy)]
 struct PerMaster<T> {
-    first: T,
-    second: T,
-    third: T,
-    fourth: T,
-    fifth: T,
-    sixth: T,
-    seventh: T,
-    eighth: T,
+    values: [T; 8],
 }
