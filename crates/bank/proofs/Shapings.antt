@@ -5,6 +5,7 @@ use Rattle.std.proofs.lemmas.Bool.{cases_eq, cases_lt}
 use Rattle.bank.specs.ByMaster.{of_master, Placed}
 use Rattle.bank.specs.Eight.{AsNew, Fresh, line_of, queue_of, Shaped, size_at}
 use Rattle.bank.specs.Meaning.{Idle, Line, Master}
+use Rattle.bank.proofs.Laws.{between}
 use Rattle.bank.specs.declared.PerMaster.{PerMaster}
 use Rattle.bank.specs.declared.QueueBank.{QueueBank}
 
@@ -39,14 +40,7 @@ module _ {Q : Type 0} (line : Q → Line) (starts : ℕ → Q → Type 0) (law :
       subst (λ o. ((line_of line o).size ≡ sizes k) × Idle (line_of line o)) (sym a.stands) (law (sizes k) a.queue a.begins)
 
   idle_new : (k : ℕ) → Idle (line_of line (queue_of b k))
-  idle_new k =
-      ⊎_elim
-      (λ low. ⊎_elim (λ high. none (λ m. omega (arith, m.1))) (λ high. (at_new k (omega arith, high)).1) (cases_lt 8 k))
-      (λ z. none (λ m. omega (arith, m.0)))
-      (cases_lt 0 k)
-    where
-      none : (Master k → ⊥) → Idle (line_of line (queue_of b k))
-      none n = subst (λ o. Idle (line_of line o)) (sym (no_queue b k n)) (λ i. refl)
+  idle_new k = between 8 k (λ m. (at_new k m).1) (λ n. subst (λ o. Idle (line_of line o)) (sym (no_queue b k n)) (λ i. refl))
 
   pub new_fresh : Fresh line sizes b
   new_fresh = record { sized = λ k m. (at_new k m).0; idle = idle_new }
