@@ -28,19 +28,12 @@ module _ {B : Type 0} (meaning : B → Meaning) (takes : B → ℕ → Option �
           passed (more d p t) (omega (arith, t.0.here.closer i on h)) (λ _. t.0.here.stays i on h)
 
   passed_none : (b : B) (n : ℕ) (b' : B) → Passed meaning takes k i b n b' → n ≡ 0 → b' ≡ b
-  passed_none b n b' none e = refl
-  passed_none b n b' (more d p t) e = absurd (omega arith)
+  passed_none b n b' p e = grind arith
 
   -- the stream waits no more: it was given by then
   pub drawn : (b : B) (n : ℕ) (b' : B) → Drawing b n b' → (meaning b' k).left i ≡ 0 → Drawn meaning takes k i b n b'
-  drawn b n b' (passed p l w) z = record {
-    by_then = omega arith;
-    given = λ h. absurd (omega (arith, w h));
-    idle = λ e. passed_none b n b' p (omega arith);
-  }
-  drawn b n b' (reached g l w z') z = record { by_then = l; given = λ _. g; idle = λ e. absurd (omega arith) }
+  drawn b n b' d z = grind (arith, passed_none)
 
   -- what was taken is at most what was left
   pub draws_few : (b : B) (n : ℕ) (b' : B) → Drawing b n b' → n ≤ (meaning b k).left i
-  draws_few b n b' (passed p l w) = omega arith
-  draws_few b n b' (reached g l w z) = l
+  draws_few b n b' d = grind arith

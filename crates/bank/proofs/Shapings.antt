@@ -1,11 +1,10 @@
 -- New queues, and what a bank of new queues means.
 use Rattle.std.proofs.Common.{◌≡◌, ℕ, zero, suc, ◌+◌, ◌<◌, ◌≤◌, List, None, sym, refl, ap, ◌∙◌, subst, ⊎_elim, add-one, arith}
 use Rattle.std.proofs.lemmas.Bool.Decides.{nat_tests}
-use Rattle.std.proofs.lemmas.Bool.{cases_eq, cases_lt}
+use Rattle.std.proofs.lemmas.Bool.{cases_eq}
 use Rattle.bank.specs.ByMaster.{of_master, Placed}
 use Rattle.bank.specs.Eight.{AsNew, Fresh, line_of, queue_of, Shaped, size_at}
 use Rattle.bank.specs.Meaning.{Idle, Line, Master}
-use Rattle.bank.proofs.Laws.{between}
 use Rattle.bank.specs.declared.PerMaster.{PerMaster}
 use Rattle.bank.specs.declared.QueueBank.{QueueBank}
 
@@ -29,18 +28,9 @@ module _ {Q : Type 0} (starts : ℕ → Q → Type 0) (ns : List ℕ) where
 
 -- outside the masters there is no queue
 no_queue : {Q : Type 0} (b : QueueBank Q) (k : ℕ) → (Master k → ⊥) → queue_of b k ≡ None
-no_queue b zero n = refl
-no_queue b (suc k) n = grind (arith, nat_tests)
+no_queue b k n = grind (arith, nat_tests)
 
 -- new queues have their sizes, and nothing waits in them
 module _ {Q : Type 0} (line : Q → Line) (starts : ℕ → Q → Type 0) (law : (n : ℕ) (q : Q) → starts n q → ((line q).size ≡ n) × Idle (line q)) (sizes : ℕ → ℕ) (b : QueueBank Q) (new : Shaped starts sizes b) where
-  at_new : (k : ℕ) → Master k → ((line_of line (queue_of b k)).size ≡ sizes k) × Idle (line_of line (queue_of b k))
-  at_new k m =
-      let a = new k m in
-      subst (λ o. ((line_of line o).size ≡ sizes k) × Idle (line_of line o)) (sym a.stands) (law (sizes k) a.queue a.begins)
-
-  idle_new : (k : ℕ) → Idle (line_of line (queue_of b k))
-  idle_new k = between 8 k (λ m. (at_new k m).1) (λ n. subst (λ o. Idle (line_of line o)) (sym (no_queue b k n)) (λ i. refl))
-
   pub new_fresh : Fresh line sizes b
-  new_fresh = record { sized = λ k m. (at_new k m).0; idle = idle_new }
+  new_fresh = record { sized = λ k m. grind (arith, nat_tests, new k m, law); idle = λ k i. grind (arith, nat_tests, new k, law, no_queue) }
