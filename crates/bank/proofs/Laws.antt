@@ -1,7 +1,7 @@
 -- What follows from the ranges of a line and of a bank alone.
 use Rattle.std.proofs.Common.{◌≡◌, ℕ, ◌≤◌, Bool, true, false, nat_lt, arith, MatchBool}
 use Rattle.std.proofs.lemmas.Bool.Decides.{nat_tests}
-use Rattle.bank.specs.Meaning.{Idle, Lawful, Line, Meaning, Orderly}
+use Rattle.bank.specs.Meaning.{Lawful, Line, Meaning, Orderly}
 use Rattle.bank.specs.Waiting.{WaitsHere, WaitsSomewhere}
 
 -- no left number is above 16

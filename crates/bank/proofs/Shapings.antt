@@ -1,9 +1,9 @@
 -- New queues, and what a bank of new queues means.
-use Rattle.std.proofs.Common.{◌≡◌, ℕ, zero, suc, ◌+◌, ◌<◌, ◌≤◌, List, None, sym, refl, ap, ◌∙◌, subst, ⊎_elim, add-one, arith}
+use Rattle.std.proofs.Common.{◌≡◌, ℕ, suc, ◌+◌, ◌<◌, ◌≤◌, List, None, ⊎_elim, arith}
 use Rattle.std.proofs.lemmas.Bool.Decides.{nat_tests}
 use Rattle.std.proofs.lemmas.Bool.{cases_eq}
-use Rattle.bank.specs.ByMaster.{of_master, Placed}
-use Rattle.bank.specs.Eight.{AsNew, Fresh, line_of, queue_of, Shaped, size_at}
+use Rattle.bank.specs.ByMaster.{Placed}
+use Rattle.bank.specs.Eight.{AsNew, Fresh, queue_of, Shaped, size_at}
 use Rattle.bank.specs.Meaning.{Idle, Line, Master}
 use Rattle.bank.specs.declared.PerMaster.{PerMaster}
 use Rattle.bank.specs.declared.QueueBank.{QueueBank}
@@ -14,17 +14,11 @@ module _ {Q : Type 0} (starts : ℕ → Q → Type 0) (ns : List ℕ) where
   FitsNew t k = (size_at ns k ≤ 8) × AsNew starts t k (size_at ns k)
 
   pub one_more : (t t' : PerMaster Q) (k : ℕ) (q : Q) → k < 8 → Placed t (k + 1) q t' → size_at ns (suc k) ≤ 8 → starts (size_at ns (suc k)) q → ((j : ℕ) → j < k → FitsNew t (suc j)) → (j : ℕ) → j < k + 1 → FitsNew t' (suc j)
-  one_more t t' k q l p fit s h j m = ⊎_elim here there (cases_eq j k)
-    where
-      here : j ≡ k → FitsNew t' (suc j)
-      here e =
-          subst (λ x. FitsNew t' (suc x)) (sym e)
-          (fit, record { queue = q; stands = ap (of_master t') (sym (add-one k)) ∙ p.here (omega arith, omega arith); begins = s })
-
-      there : (j ≡ k → ⊥) → FitsNew t' (suc j)
-      there d =
-          let was = h j (omega arith) in
-          (was.0, record { queue = was.1.queue; stands = p.elsewhere (suc j) (λ e. d (omega (arith, e))) ∙ was.1.stands; begins = was.1.begins })
+  one_more t t' k q l p fit s h j m =
+      ⊎_elim
+      (λ e. grind (arith, p.here (omega arith, omega arith)))
+      (λ d. let was = h j (omega arith) in grind (arith, was, p.elsewhere (suc j)))
+      (cases_eq j k)
 
 -- outside the masters there is no queue
 no_queue : {Q : Type 0} (b : QueueBank Q) (k : ℕ) → (Master k → ⊥) → queue_of b k ≡ None
