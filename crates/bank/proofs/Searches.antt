@@ -20,7 +20,7 @@ at_item Q None x e h = search rules
 at_item Q (Some y) x e h = search rules
 
 -- P i b says that the test answers b at i
-module _ {F : Type 0} (g : Mut F (ℕ × Unit {0}) Bool) (f : F) (n : ℕ) (P : ℕ → Bool → Type 0) (tests : (i : ℕ) (b : Bool) (f' : F) → Called g f (i, tt) b f' → (f' ≡ f) × P i b) where
+module _ {F : Type 0} {g : Mut F (ℕ × Unit {0}) Bool} {f : F} (n : ℕ) (P : ℕ → Bool → Type 0) (tests : (i : ℕ) (b : Bool) (f' : F) → Called g f (i, tt) b f' → (f' ≡ f) × P i b) where
   pub any_of : (s : RangeInclusive ℕ) → range_inclusive_start s ≡ 1 → range_inclusive_end s ≡ n → range_inclusive_exhausted s ≡ false
       → (r : Bool) → SomeRun nat_range_inclusive_steps s (λ p. MatchBool r (AnyItemGives p g f true) (IsTrue p.whole × AllItemsGive p g f false))
       → MatchBool r ((i : ℕ) × P i true) ((i : ℕ) → 1 ≤ i → i ≤ n → P i false)

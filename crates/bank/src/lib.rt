@@ -3,7 +3,7 @@
 // queues, one for each master.
 #![tactic(auto)]
 
-ghost use Rattle.std.specs.Prelude.{◌≡◌, ℕ, ◌≤◌, Bool, Option, nat_lt, length};
+ghost use Rattle.std.specs.Prelude.{◌≡◌, ℕ, ◌≤◌, Bool, Option, nat_lt};
 ghost use Rattle.bank.specs.Meaning.{Idle, Lawful, Line, LinePut, LineTake, Meaning, Orderly, Put, Take};
 
 mod eight;
