@@ -1,5 +1,6 @@
-ghost use Rattle.std.specs.Prelude.{Some};
+ghost use Rattle.std.specs.Prelude.{◌≡◌, Some};
 ghost use Rattle.bankcases.specs.Shown.{unreadable_text};
+ghost use Rattle.bankcases.specs.Written.{call_written, number_of_letter, numbers_of};
 
 use crate::answer::Answer;
 use bank::{Bank, Queue, QueueBank};
@@ -26,12 +27,13 @@ pub enum Unreadable {
 impl TryFrom<&[u8]> for Call {
     type Error = Unreadable;
 
+    ghost try_from_gives = { λ written r. r ≡ call_written written.now };
+
     fn try_from(written: &[u8]) -> Result<Call, Unreadable> {
         let [letter, digits @ ..] = written else {
             return Err(Unreadable::CutShort);
         };
-        let digits = <[u8; 8]>::try_from(digits).map_err(|_| Unreadable::CutShort)?;
-        let numbers = digits.map(number);
+        let numbers = numbers(digits)?;
         let [master, stream, ..] = numbers;
         match *letter {
             b's' => Ok(Call::Shape(numbers)),
@@ -58,8 +60,18 @@ impl Call {
     }
 }
 
+// The numbers that eight letters stand for.
+fn numbers(letters: &[u8]) -> Result<[usize; 8], Unreadable>
+    ensures { result ≡ numbers_of letters.now }
+{
+    let letters = <[u8; 8]>::try_from(letters).map_err(|_| Unreadable::CutShort)?;
+    Ok(letters.map(number))
+}
+
 // The number that a letter stands for: a digit, or one far out of range.
-fn number(letter: u8) -> usize {
+fn number(letter: u8) -> usize
+    ensures { result ≡ number_of_letter letter }
+{
     match letter {
         b'0'..=b'9' => usize::from(letter - b'0'),
         b'h' => 256,
