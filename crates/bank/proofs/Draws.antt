@@ -1,9 +1,8 @@
 -- Takes until a stream is given: what each take does to the number left to it.
-use Rattle.std.proofs.Common.{◌≡◌, ℕ, ◌+◌, ◌≤◌, Some, None, Option, sym, refl, subst, ⊎_elim, arith}
-use Rattle.std.proofs.lemmas.Bool.{cases_eq}
+use Rattle.std.proofs.Common.{◌≡◌, ℕ, ◌+◌, ◌≤◌, Option, arith}
 use Rattle.bank.specs.Meaning.{Meaning, Waits}
 use Rattle.bank.specs.Waiting.{Drawn, GivenBy, Passed, Taken}
-use Rattle.bank.specs.Waiting.Passed.{none, more}
+use Rattle.bank.specs.Waiting.Passed.{more}
 
 module _ {B : Type 0} (meaning : B → Meaning) (takes : B → ℕ → Option ℕ → B → Type 0) (k i : ℕ) where
   -- after n takes the stream i still waits, or did not wait at all; or the last of them gave it
@@ -13,34 +12,15 @@ module _ {B : Type 0} (meaning : B → Meaning) (takes : B → ℕ → Option �
 
   -- one more take
   pub draws : (b : B) (n : ℕ) (b' : B) (r : Option ℕ) (b'' : B) → Drawing b n b' → Waits (meaning b' k) i → Taken meaning takes b' k r b'' → Drawing b (n + 1) b''
-  draws b n b' r b'' (reached g l w z) h t = absurd (omega (arith, z))
-  draws b n b' None b'' (passed p l w) h t = absurd (omega (arith, t.0.here.0 i))
-  draws b n b' (Some j) b'' (passed p l w) h t = ⊎_elim same other (cases_eq j i)
-    where
-      same : j ≡ i → Drawing b (n + 1) b''
-      same e =
-          let t' : Taken meaning takes b' k (Some i) b'' = subst (λ x. Taken meaning takes b' k (Some x) b'') e t in
-          reached (record { before = n; then = b'; passed = p; given = t'; count = refl }) (omega arith) (omega arith) t'.0.here.gone
-
-      other : (j ≡ i → ⊥) → Drawing b (n + 1) b''
-      other d =
-          let on : i ≡ j → ⊥ = λ e. d (sym e) in
-          passed (more d p t) (omega (arith, t.0.here.closer i on h)) (λ _. t.0.here.stays i on h)
+  draws b n b' r b'' d h t = grind (arith, passed, reached, more)
 
   passed_none : (b : B) (n : ℕ) (b' : B) → Passed meaning takes k i b n b' → n ≡ 0 → b' ≡ b
-  passed_none b n b' none e = refl
-  passed_none b n b' (more d p t) e = absurd (omega arith)
+  passed_none b n b' p e = grind arith
 
   -- the stream waits no more: it was given by then
   pub drawn : (b : B) (n : ℕ) (b' : B) → Drawing b n b' → (meaning b' k).left i ≡ 0 → Drawn meaning takes k i b n b'
-  drawn b n b' (passed p l w) z = record {
-    by_then = omega arith;
-    given = λ h. absurd (omega (arith, w h));
-    idle = λ e. passed_none b n b' p (omega arith);
-  }
-  drawn b n b' (reached g l w z') z = record { by_then = l; given = λ _. g; idle = λ e. absurd (omega arith) }
+  drawn b n b' d z = grind (arith, passed_none)
 
   -- what was taken is at most what was left
   pub draws_few : (b : B) (n : ℕ) (b' : B) → Drawing b n b' → n ≤ (meaning b k).left i
-  draws_few b n b' (passed p l w) = omega arith
-  draws_few b n b' (reached g l w z) = l
+  draws_few b n b' d = grind arith

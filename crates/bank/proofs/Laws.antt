@@ -1,19 +1,16 @@
--- What follows from a line's ranges alone.
-use Rattle.std.proofs.Common.{ℕ, ◌≤◌, ⊎_elim, arith}
-use Rattle.std.proofs.lemmas.Bool.{cases_lt}
-use Rattle.bank.specs.Meaning.{Line, Orderly, Within}
-
--- what is so within the size and outside is so
-by_size : (l : Line) (i : ℕ) {A : Type 0} → (Within l i → A) → ((Within l i → ⊥) → A) → A
-by_size l i inn out =
-    ⊎_elim
-    (λ low. ⊎_elim (λ above. out (λ w. omega (arith, w.1))) (λ high. inn (omega arith, omega arith)) (cases_lt l.size i))
-    (λ n. out (λ w. omega (arith, w.0)))
-    (cases_lt 0 i)
+-- What follows from the ranges of a line and of a bank alone.
+use Rattle.std.proofs.Common.{◌≡◌, ℕ, ◌≤◌, Bool, true, false, nat_lt, arith, MatchBool}
+use Rattle.std.proofs.lemmas.Bool.Decides.{nat_tests}
+use Rattle.bank.specs.Meaning.{Lawful, Line, Meaning, Orderly}
+use Rattle.bank.specs.Waiting.{WaitsHere, WaitsSomewhere}
 
 -- no left number is above 16
 pub left_few : (l : Line) → Orderly l → (i : ℕ) → l.left i ≤ 16
-left_few l o i =
-    by_size l i
-    (λ w. omega (arith, o.near i, (o.turned i w).1))
-    (λ n. omega (arith, o.near i, o.beyond i n))
+left_few l o i = grind (arith, nat_tests)
+
+-- what waits at none of eight streams, or at none of eight masters, waits nowhere
+pub waits_here : (l : Line) (r : Bool) → Orderly l → MatchBool r ((i : ℕ) × (true ≡ nat_lt 0 (l.left i))) ((i : ℕ) → 1 ≤ i → i ≤ 8 → false ≡ nat_lt 0 (l.left i)) → WaitsHere l r
+waits_here l r o h = grind (arith, nat_tests)
+
+pub waits_somewhere : (m : Meaning) (r : Bool) → Lawful m → MatchBool r ((k : ℕ) × WaitsHere (m k) true) ((k : ℕ) → 1 ≤ k → k ≤ 8 → WaitsHere (m k) false) → WaitsSomewhere m r
+waits_somewhere m r o h = grind (arith, nat_tests)

@@ -1,9 +1,9 @@
 -- New queues, and what a bank of new queues means.
-use Rattle.std.proofs.Common.{◌≡◌, ℕ, zero, suc, ◌+◌, ◌<◌, ◌≤◌, List, None, sym, refl, ap, ◌∙◌, subst, ⊎_elim, add-one, arith}
-use Rattle.std.proofs.lemmas.Option.{slice_get_past}
-use Rattle.std.proofs.lemmas.Bool.{cases_eq, cases_lt}
-use Rattle.bank.specs.ByMaster.{of_master, Placed, values}
-use Rattle.bank.specs.Eight.{AsNew, Fresh, line_of, queue_of, Shaped, size_at}
+use Rattle.std.proofs.Common.{◌≡◌, ℕ, suc, ◌+◌, ◌<◌, ◌≤◌, List, None, ⊎_elim, arith}
+use Rattle.std.proofs.lemmas.Bool.Decides.{nat_tests}
+use Rattle.std.proofs.lemmas.Bool.{cases_eq}
+use Rattle.bank.specs.ByMaster.{Placed}
+use Rattle.bank.specs.Eight.{AsNew, Fresh, queue_of, Shaped, size_at}
 use Rattle.bank.specs.Meaning.{Idle, Line, Master}
 use Rattle.bank.specs.declared.PerMaster.{PerMaster}
 use Rattle.bank.specs.declared.QueueBank.{QueueBank}
@@ -14,39 +14,17 @@ module _ {Q : Type 0} (starts : ℕ → Q → Type 0) (ns : List ℕ) where
   FitsNew t k = (size_at ns k ≤ 8) × AsNew starts t k (size_at ns k)
 
   pub one_more : (t t' : PerMaster Q) (k : ℕ) (q : Q) → k < 8 → Placed t (k + 1) q t' → size_at ns (suc k) ≤ 8 → starts (size_at ns (suc k)) q → ((j : ℕ) → j < k → FitsNew t (suc j)) → (j : ℕ) → j < k + 1 → FitsNew t' (suc j)
-  one_more t t' k q l p fit s h j m = ⊎_elim here there (cases_eq j k)
-    where
-      here : j ≡ k → FitsNew t' (suc j)
-      here e =
-          subst (λ x. FitsNew t' (suc x)) (sym e)
-          (fit, record { queue = q; stands = ap (of_master t') (sym (add-one k)) ∙ p.here (omega arith, omega arith); begins = s })
-
-      there : (j ≡ k → ⊥) → FitsNew t' (suc j)
-      there d =
-          let was = h j (omega arith) in
-          (was.0, record { queue = was.1.queue; stands = p.elsewhere (suc j) (λ e. d (omega (arith, e))) ∙ was.1.stands; begins = was.1.begins })
+  one_more t t' k q l p fit s h j m =
+      ⊎_elim
+      (λ e. grind (arith, p.here (omega arith, omega arith)))
+      (λ d. let was = h j (omega arith) in grind (arith, was, p.elsewhere (suc j)))
+      (cases_eq j k)
 
 -- outside the masters there is no queue
 no_queue : {Q : Type 0} (b : QueueBank Q) (k : ℕ) → (Master k → ⊥) → queue_of b k ≡ None
-no_queue b zero n = refl
-no_queue b (suc k) n = slice_get_past (values b.queues) k (⊎_elim (λ l. absurd (n (omega arith, omega arith))) (λ g. g) (cases_lt k 8))
+no_queue b k n = grind (arith, nat_tests)
 
 -- new queues have their sizes, and nothing waits in them
 module _ {Q : Type 0} (line : Q → Line) (starts : ℕ → Q → Type 0) (law : (n : ℕ) (q : Q) → starts n q → ((line q).size ≡ n) × Idle (line q)) (sizes : ℕ → ℕ) (b : QueueBank Q) (new : Shaped starts sizes b) where
-  at_new : (k : ℕ) → Master k → ((line_of line (queue_of b k)).size ≡ sizes k) × Idle (line_of line (queue_of b k))
-  at_new k m =
-      let a = new k m in
-      subst (λ o. ((line_of line o).size ≡ sizes k) × Idle (line_of line o)) (sym a.stands) (law (sizes k) a.queue a.begins)
-
-  idle_new : (k : ℕ) → Idle (line_of line (queue_of b k))
-  idle_new k =
-      ⊎_elim
-      (λ low. ⊎_elim (λ high. none (λ m. omega (arith, m.1))) (λ high. (at_new k (omega arith, high)).1) (cases_lt 8 k))
-      (λ z. none (λ m. omega (arith, m.0)))
-      (cases_lt 0 k)
-    where
-      none : (Master k → ⊥) → Idle (line_of line (queue_of b k))
-      none n = subst (λ o. Idle (line_of line o)) (sym (no_queue b k n)) (λ i. refl)
-
   pub new_fresh : Fresh line sizes b
-  new_fresh = record { sized = λ k m. (at_new k m).0; idle = idle_new }
+  new_fresh = record { sized = λ k m. grind (arith, nat_tests, new k m, law); idle = λ k i. grind (arith, nat_tests, new k, law, no_queue) }

@@ -1,17 +1,17 @@
 -- A table with one value for each master.
-use Rattle.std.specs.Prelude.{◌≡◌, ℕ, zero, suc, List, [], ◌∷◌, Some, None, Option, ◌≢◌}
+use Rattle.std.specs.Prelude.{◌≡◌, ℕ, zero, suc, List, cond, nat_lt, Some, None, Option, ◌≢◌}
 use Rattle.std.specs.List.{slice_get}
 use Rattle.bank.specs.Meaning.{Master}
 use Rattle.bank.specs.declared.PerMaster.{PerMaster}
 
 -- the values in the order of the masters
 abbrev pub values : {T : Type 0} → PerMaster T → List T
-values t = t.first ∷ t.second ∷ t.third ∷ t.fourth ∷ t.fifth ∷ t.sixth ∷ t.seventh ∷ t.eighth ∷ []
+values t = t.values
 
 -- the value of the master k, if there is such a master
 abbrev pub of_master : {T : Type 0} → PerMaster T → ℕ → Option T
 of_master t zero = None
-of_master t (suc k) = slice_get (values t) k
+of_master t (suc k) = cond (nat_lt k 8) (slice_get (values t) k) None
 
 -- the value of the master k is x now, and no other changed
 pub record Placed {T : Type 0} (t : PerMaster T) (k : ℕ) (x : T) (t' : PerMaster T) : Type 0 where

@@ -87,7 +87,8 @@ Shapes line starts b ns r b' = MatchResult r
     (λ _. (Fitting ns × AllIdle (means line b)) × (Fresh line (size_at ns) b' × Shaped starts (size_at ns) b'))
     (λ e. Unshaped (means line b) ns e × (b' ≡ b))
 
--- a new bank with these sizes, if they are all at most 8
-abbrev pub Built : {Q : Type 0} → (ℕ → Q → Type 0) → List ℕ → Option (QueueBank Q) → Type 0
-Built starts ns None = TooLarge ns
-Built starts ns (Some b) = Fitting ns × Shaped starts (size_at ns) b
+-- a new bank with these sizes, refused where one is above 8
+abbrev pub Built : {Q : Type 0} → (ℕ → Q → Type 0) → List ℕ → Result (QueueBank Q) Refusal → Type 0
+Built starts ns r = MatchResult r
+    (λ b. Fitting ns × Shaped starts (size_at ns) b)
+    (λ e. TooLarge ns × (e ≡ SizeTooLarge))

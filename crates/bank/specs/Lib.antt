@@ -4,3 +4,4 @@ pub mod Runs
 pub mod ByMaster
 pub mod Counts
 pub mod Eight
+pub mod Starts

@@ -1,5 +1,6 @@
 -- Calls on a bank one after another, at any masters and of any streams, and what they do to those that wait.
-use Rattle.std.specs.Prelude.{◌≡◌, ℕ, ◌+◌, ◌<◌, ◌≤◌, Bool, true, false, cond, ◌&&◌, ◌||◌, List, [], ◌∷◌, Some, None, Option, ◌==◌}
+use Rattle.std.specs.Prelude.{◌≡◌, ℕ, ◌+◌, ◌<◌, ◌≤◌, Bool, true, false, cond, ◌&&◌, List, [], ◌∷◌, sum_by, Some, None, Option, ◌==◌}
+use Rattle.std.specs.List.{list_any}
 use Rattle.bank.specs.Meaning.{Meaning, Put, Take, Waits}
 
 -- a put of a stream at a master, or a take at a master, with its answer
@@ -24,8 +25,7 @@ takes_one k (take k' (Some j)) = cond (k' == k) 1 0
 
 -- how many takes at the master k gave a stream
 abbrev pub taken : ℕ → List Call → ℕ
-taken k [] = 0
-taken k (c ∷ cs) = takes_one k c + taken k cs
+taken k = sum_by (takes_one k)
 
 -- the call gives the stream i of the master k
 abbrev pub gives : ℕ → ℕ → Call → Bool
@@ -33,18 +33,18 @@ gives k i (put k' i' r) = false
 gives k i (take k' None) = false
 gives k i (take k' (Some j)) = k' == k && j == i
 
+-- a call gives it
 abbrev pub given : ℕ → ℕ → List Call → Bool
-given k i [] = false
-given k i (c ∷ cs) = gives k i c || given k i cs
+given k i = list_any (gives k i)
 
 -- the call puts the stream i of the master k
 abbrev pub puts : ℕ → ℕ → Call → Bool
 puts k i (put k' i' r) = k' == k && i' == i
 puts k i (take k' r) = false
 
+-- a call puts it
 abbrev pub ever_put : ℕ → ℕ → List Call → Bool
-ever_put k i [] = false
-ever_put k i (c ∷ cs) = puts k i c || ever_put k i cs
+ever_put k i = list_any (puts k i)
 
 -- what calls do, whatever they are
 pub record InTurn (m : Meaning) (cs : List Call) (m' : Meaning) : Type 0 where

@@ -21,9 +21,7 @@ impl<Q: Queue> QueueBank<Q> {
     pub fn shape(&mut self, sizes: [usize; 8]) -> Result<(), Refusal>
         ensures { Shapes Q.Queue.line Q.Queue.starts self.old sizes result self.new }
     {
-        let Some(shaped) = QueueBank::with_sizes(sizes) else {
-            return Err(Refusal::SizeTooLarge);
-        };
+        let shaped = QueueBank::with_sizes(sizes)?;
         if any_waits(self) {
             return Err(Refusal::ShapeWhileWaiting);
         }
@@ -31,19 +29,15 @@ impl<Q: Queue> QueueBank<Q> {
         Ok(())
     }
 
-    // A new bank with these sizes; none where one is above 8.
-    fn with_sizes(sizes: [usize; 8]) -> Option<QueueBank<Q>>
+    // A new bank with these sizes; refused where one is above 8.
+    fn with_sizes(sizes: [usize; 8]) -> Result<QueueBank<Q>, Refusal>
         ensures { Built Q.Queue.starts sizes result }
     {
         let mut queues = PerMaster::all(Q::new(StreamCount::zero()));
-        for k in 0..8 {
-            let Some(size) = StreamCount::new(sizes[k]) else {
-                return None;
-            };
-            let queue = Q::new(size);
-            queues.set(k + 1, queue);
+        for (index, size) in sizes.iter().enumerate() {
+            queues.set(index + 1, Q::new(StreamCount::try_from(*size)?));
         }
-        Some(QueueBank { queues })
+        Ok(QueueBank { queues })
     }
 }
 
@@ -57,24 +51,19 @@ impl<Q: Queue> Bank for QueueBank<Q> {
     ghost lawful = { Prim.search rules };
 
     fn size(&self, master: usize) -> usize {
-        match self.queues.get(master) {
-            Some(queue) => queue.size(),
-            None => 0,
-        }
+        self.queues.get(master).map_or(0, |queue| queue.size())
     }
 
     fn turns(&self, master: usize, stream: usize) -> usize {
-        match self.queues.get(master) {
-            Some(queue) => queue.turns(stream),
-            None => 0,
-        }
+        self.queues
+            .get(master)
+            .map_or(0, |queue| queue.turns(stream))
     }
 
     fn waits(&self, master: usize, stream: usize) -> bool {
-        match self.queues.get(master) {
-            Some(queue) => queue.waits(stream),
-            None => false,
-        }
+        self.queues
+            .get(master)
+            .is_some_and(|queue| queue.waits(stream))
     }
 
     fn put(&mut self, master: usize, stream: usize) -> bool {
@@ -87,9 +76,7 @@ impl<Q: Queue> Bank for QueueBank<Q> {
     }
 
     fn take(&mut self, master: usize) -> Option<usize> {
-        let Some(mut queue) = self.queues.get(master) else {
-            return None;
-        };
+        let mut queue = self.queues.get(master)?;
         let given = queue.take();
         self.queues.set(master, queue);
         given

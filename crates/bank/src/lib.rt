@@ -66,9 +66,16 @@ pub trait Queue: Copy {
     fn new(streams: StreamCount) -> Self
         ensures { starts streams.count result };
 
+    /// How many streams it has, as a count.
+    fn streams(&self) -> StreamCount
+        ensures { result.count ≡ (line self.now).size };
+
     /// How many streams it has.
     fn size(&self) -> usize
-        ensures { result ≡ (line self.now).size };
+        ensures { result ≡ (line self.now).size }
+    {
+        self.streams().get()
+    }
 
     /// The most takes until a stream that is put now is given.
     fn turns(&self, stream: usize) -> usize
@@ -108,16 +115,8 @@ pub struct QueueBank<Q> {
     queues: PerMaster<Q>,
 }
 
-// One value for each of the eight masters. (Eight fields, because an earlier toolchain made no proof
-// of an `impl Bank` for a type that holds an array of a type parameter.)
+// One value for each of the eight masters.
 #[derive(Clone, Copy)]
 struct PerMaster<T> {
-    first: T,
-    second: T,
-    third: T,
-    fourth: T,
-    fifth: T,
-    sixth: T,
-    seventh: T,
-    eighth: T,
+    values: [T; 8],
 }

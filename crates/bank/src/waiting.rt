@@ -7,24 +7,14 @@ use crate::Bank;
 pub fn any_waits<B: Bank>(bank: &B) -> bool
     ensures { WaitsSomewhere (B.Bank.meaning bank.now) result }
 {
-    for master in 1..=8 {
-        if any_waits_at(bank, master) {
-            return true;
-        }
-    }
-    false
+    (1..=8).any(|master| any_waits_at(bank, master))
 }
 
 /// Whether some stream waits at the master.
 pub fn any_waits_at<B: Bank>(bank: &B, master: usize) -> bool
     ensures { WaitsHere (B.Bank.meaning bank.now master) result }
 {
-    for stream in 1..=8 {
-        if bank.waits(master, stream) {
-            return true;
-        }
-    }
-    false
+    (1..=8).any(|stream| bank.waits(master, stream))
 }
 
 /// Takes at the master until the stream is given, and says how many takes that were: at most as
@@ -36,6 +26,7 @@ pub fn take_until<B: Bank>(bank: &mut B, master: usize, stream: usize) -> usize
     ensures drawn { Drawn B.Bank.meaning B.Bank.takes master stream bank.old result bank.new }
     ensures fair { Fair }
 {
+    // A chain over the takes would hold the bank, which the test needs too.
     let mut takes = 0;
     while bank.waits(master, stream) {
         let _ = bank.take(master);

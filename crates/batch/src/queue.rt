@@ -1,10 +1,9 @@
-ghost use Rattle.std.specs.Prelude.{◌≡◌};
-ghost use Rattle.std.proofs.Common.{ap, subst, sym};
+ghost use Rattle.std.specs.Prelude.{◌≡◌, refl};
 ghost use Rattle.batch.specs.Groups.{groups_line, GroupsPut, GroupsTake, new_groups};
 ghost use Rattle.batch.specs.Views.{groups_of};
 ghost use Rattle.batch.specs.Batches.{groups_orderly, groups_new, groups_putting, groups_taking};
 ghost use Rattle.batch.specs.Held.{apart};
-ghost use Rattle.bank.specs.Meaning.{Idle};
+ghost use Rattle.bank.specs.Starts.{as_new};
 
 use crate::Batch;
 use bank::{Queue, StreamCount};
@@ -21,7 +20,7 @@ impl Queue for Batch {
 
     ghost orderly = { λ q. groups_orderly (groups_of q) (apart q) };
 
-    ghost starting = { λ n q e. (ap (λ g. g.size) e, subst (λ g. Idle (groups_line g)) (sym e) (groups_new n)) };
+    ghost starting = { λ n q. as_new groups_line n refl (groups_new n) };
 
     ghost putting = { λ q i r q' p. groups_putting (groups_of q) i r (groups_of q') (apart q) p };
 
@@ -35,8 +34,8 @@ impl Queue for Batch {
         }
     }
 
-    fn size(&self) -> usize {
-        self.size.get()
+    fn streams(&self) -> StreamCount {
+        self.size
     }
 
     fn turns(&self, stream: usize) -> usize {

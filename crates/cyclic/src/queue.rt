@@ -1,10 +1,9 @@
-ghost use Rattle.std.specs.Prelude.{◌≡◌};
-ghost use Rattle.std.proofs.Common.{ap, subst, sym};
+ghost use Rattle.std.specs.Prelude.{◌≡◌, refl};
 ghost use Rattle.cyclic.specs.Circle.{circle_line, CirclePut, CircleTake, new_circle, Nearest};
 ghost use Rattle.cyclic.specs.Views.{circle_of};
 ghost use Rattle.cyclic.specs.Circles.{circle_orderly, circle_new, circle_putting, circle_taking};
 ghost use Rattle.cyclic.specs.Held.{round};
-ghost use Rattle.bank.specs.Meaning.{Idle};
+ghost use Rattle.bank.specs.Starts.{as_new};
 
 use crate::Cyclic;
 use bank::{Queue, StreamCount};
@@ -33,7 +32,7 @@ impl Queue for Cyclic {
 
     ghost orderly = { λ q. circle_orderly (circle_of q) (round q) };
 
-    ghost starting = { λ n q e. (ap (λ c. c.size) e, subst (λ c. Idle (circle_line c)) (sym e) (circle_new n)) };
+    ghost starting = { λ n q. as_new circle_line n refl (circle_new n) };
 
     ghost putting = { λ q i r q' p. circle_putting (circle_of q) i r (circle_of q') (round q) p };
 
@@ -47,8 +46,8 @@ impl Queue for Cyclic {
         }
     }
 
-    fn size(&self) -> usize {
-        self.size.get()
+    fn streams(&self) -> StreamCount {
+        self.size
     }
 
     fn turns(&self, stream: usize) -> usize {

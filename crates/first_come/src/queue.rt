@@ -1,10 +1,9 @@
-ghost use Rattle.std.specs.Prelude.{◌≡◌};
-ghost use Rattle.std.proofs.Common.{ap, subst, sym};
+ghost use Rattle.std.specs.Prelude.{◌≡◌, refl};
 ghost use Rattle.first_come.specs.Order.{new_order, order_line, OrderPut, OrderTake, place};
 ghost use Rattle.first_come.specs.Views.{order_of};
 ghost use Rattle.first_come.specs.Orders.{order_orderly, order_new, order_putting, order_taking};
 ghost use Rattle.first_come.specs.Held.{lined};
-ghost use Rattle.bank.specs.Meaning.{Idle};
+ghost use Rattle.bank.specs.Starts.{as_new};
 
 use crate::FirstCome;
 use bank::{Queue, StreamCount};
@@ -34,7 +33,7 @@ impl Queue for FirstCome {
 
     ghost orderly = { λ q. order_orderly (order_of q) (lined q) };
 
-    ghost starting = { λ n q e. (ap (λ o. o.size) e, subst (λ o. Idle (order_line o)) (sym e) (order_new n)) };
+    ghost starting = { λ n q. as_new order_line n refl (order_new n) };
 
     ghost putting = { λ q i r q' p. order_putting (order_of q) i r (order_of q') (lined q) (lined q') p };
 
@@ -48,8 +47,8 @@ impl Queue for FirstCome {
         }
     }
 
-    fn size(&self) -> usize {
-        self.size.get()
+    fn streams(&self) -> StreamCount {
+        self.size
     }
 
     fn turns(&self, stream: usize) -> usize {
