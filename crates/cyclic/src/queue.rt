@@ -50,10 +50,7 @@ impl Queue for Cyclic {
     }
 
     fn turns(&self, stream: usize) -> usize {
-        if !self.size.includes(stream) {
-            return 0;
-        }
-        self.size.get()
+        self.size.turns_each(stream)
     }
 
     fn waits(&self, stream: usize) -> bool {
