@@ -39,10 +39,11 @@ impl Queue for Batch {
     }
 
     fn turns(&self, stream: usize) -> usize {
-        if !self.size.includes(stream) {
-            return 0;
+        if self.size.includes(stream) {
+            self.size.get() + stream - 1
+        } else {
+            0
         }
-        self.size.get() + stream - 1
     }
 
     fn waits(&self, stream: usize) -> bool {
@@ -62,12 +63,9 @@ impl Queue for Batch {
             self.closed.remove(stream);
             return Some(stream);
         }
-        let Some(stream) = self.gathered.above(0) else {
-            return None;
-        };
-        let mut rest = self.gathered;
-        rest.remove(stream);
-        self.closed = rest;
+        let stream = self.gathered.above(0)?;
+        self.gathered.remove(stream);
+        self.closed = self.gathered;
         self.gathered = StreamSet::empty();
         Some(stream)
     }
