@@ -50,6 +50,7 @@ impl Queue for FirstCome {
         if !self.size.includes(stream) || self.waits(stream) {
             return false;
         }
+        // Each stream waits once, so one that does not wait finds room.
         self.order.push(stream).is_ok()
     }
 
