@@ -1,6 +1,6 @@
 -- The cyclic queue: it looks from the stream after the one given last, and wraps.
 use Rattle.std.specs.Prelude.{◌≡◌, ℕ, ◌+◌, ◌-◌, ◌≤◌, Bool, true, false, cond, Some, None, Option, nat_lt}
-use Rattle.bank.specs.Counts.{among}
+use Rattle.bank.specs.Counts.{even_turns}
 use Rattle.bank.specs.Meaning.{Line}
 use Rattle.streams.specs.Streams.{Streams, nobody, with, without, AllAmong, Empty, Newcomer}
 
@@ -18,7 +18,7 @@ reach c i = cond (nat_lt c.last i) (i - c.last) ((i + c.size) - c.last)
 abbrev pub circle_line : Circle → Line
 circle_line c = record {
   size = c.size;
-  turns = λ i. cond (among c.size i) c.size 0;
+  turns = even_turns c.size;
   left = λ i. cond (c.waiting i) (reach c i) 0;
 }
 

@@ -2,6 +2,7 @@
 #![tactic(auto)]
 
 ghost use Rattle.std.specs.Prelude.{◌≤◌};
+ghost use Rattle.std.specs.Option.{unwrap_or};
 ghost use Rattle.streams.specs.Members.{members};
 ghost use Rattle.streams.specs.Streams.{AllAmong};
 
@@ -18,9 +19,9 @@ pub type CyclicBank = QueueBank<Cyclic>;
 #[derive(Clone, Copy)]
 pub struct Cyclic {
     size: StreamCount,
-    // 0 before anything was given.
-    last: u8,
+    // None before anything was given.
+    last: Option<usize>,
     waiting: StreamSet,
-    ghost within: { last ≤ size.count },
+    ghost within: { unwrap_or last 0 ≤ size.count },
     ghost streams: { AllAmong size.count (members waiting) },
 }

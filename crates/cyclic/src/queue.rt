@@ -14,10 +14,9 @@ impl Cyclic {
     fn next(&self) -> Option<usize>
         ensures { Nearest (circle_of self.now) result }
     {
-        match self.waiting.above(self.last as usize) {
-            Some(stream) => Some(stream),
-            None => self.waiting.above(0),
-        }
+        self.last
+            .and_then(|last| self.waiting.above(last))
+            .or_else(|| self.waiting.above(0))
     }
 }
 
@@ -41,7 +40,7 @@ impl Queue for Cyclic {
     fn new(streams: StreamCount) -> Cyclic {
         Cyclic {
             size: streams,
-            last: 0,
+            last: None,
             waiting: StreamSet::empty(),
         }
     }
@@ -51,16 +50,14 @@ impl Queue for Cyclic {
     }
 
     fn turns(&self, stream: usize) -> usize {
-        if !self.size.includes(stream) {
-            return 0;
-        }
-        self.size.get()
+        self.size.turns_each(stream)
     }
 
     fn waits(&self, stream: usize) -> bool {
         self.waiting.contains(stream)
     }
 
+    // Alike in each policy, but one form for all would need a ghost member and two laws in each.
     fn put(&mut self, stream: usize) -> bool {
         if !self.size.includes(stream) || self.waiting.contains(stream) {
             return false;
@@ -70,11 +67,9 @@ impl Queue for Cyclic {
     }
 
     fn take(&mut self) -> Option<usize> {
-        let Some(stream) = self.next() else {
-            return None;
-        };
+        let stream = self.next()?;
         self.waiting.remove(stream);
-        self.last = stream as u8;
+        self.last = Some(stream);
         Some(stream)
     }
 }

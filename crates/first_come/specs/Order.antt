@@ -1,6 +1,6 @@
 -- The first-come queue: the streams in the order in which they came.
 use Rattle.std.specs.Prelude.{◌≡◌, ℕ, ◌+◌, ◌≤◌, Bool, true, false, cond, ◌&&◌, List, [], ◌∷◌, ◌++◌, Some, None, Option, ◌==◌}
-use Rattle.bank.specs.Counts.{among}
+use Rattle.bank.specs.Counts.{among, even_turns}
 use Rattle.bank.specs.Meaning.{Line}
 
 -- the place of i, from 1; 0 where it is not there
@@ -27,7 +27,7 @@ pub record Order : Type 0 where
 abbrev pub order_line : Order → Line
 order_line o = record {
   size = o.size;
-  turns = λ i. cond (among o.size i) o.size 0;
+  turns = even_turns o.size;
   left = λ i. place i o.order;
 }
 

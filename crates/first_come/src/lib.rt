@@ -1,10 +1,12 @@
 // The first-come policy: a take gives the longest waiting.
 #![tactic(auto)]
 
-ghost use Rattle.std.specs.Prelude.{◌≡◌, ◌≤◌, true, length, take};
+ghost use Rattle.std.specs.Prelude.{◌≡◌, ◌≤◌, true, length};
+ghost use Rattle.bounded.specs.Items.{items};
 ghost use Rattle.first_come.specs.Order.{all_among, once};
 
 use bank::{QueueBank, StreamCount};
+use bounded::ArrayVec;
 
 mod queue;
 
@@ -15,11 +17,9 @@ pub type FirstComeBank = QueueBank<FirstCome>;
 #[derive(Clone, Copy)]
 pub struct FirstCome {
     size: StreamCount,
-    // The first `count` are those that wait, the longest waiting first.
-    order: [u8; 8],
-    count: u8,
-    ghost eight: { length order ≡ 8 },
-    ghost few: { count ≤ size.count },
-    ghost streams: { all_among size.count (take count order) ≡ true },
-    ghost single: { once (take count order) ≡ true },
+    // Those that wait, the longest waiting first.
+    order: ArrayVec<usize, 8>,
+    ghost few: { length (items order) ≤ size.count },
+    ghost streams: { all_among size.count (items order) ≡ true },
+    ghost single: { once (items order) ≡ true },
 }

@@ -1,5 +1,5 @@
 ghost use Rattle.std.specs.Prelude.{◌≡◌, refl};
-ghost use Rattle.first_come.specs.Order.{new_order, order_line, OrderPut, OrderTake, place};
+ghost use Rattle.first_come.specs.Order.{new_order, order_line, OrderPut, OrderTake};
 ghost use Rattle.first_come.specs.Views.{order_of};
 ghost use Rattle.first_come.specs.Orders.{order_orderly, order_new, order_putting, order_taking};
 ghost use Rattle.first_come.specs.Held.{lined};
@@ -7,20 +7,7 @@ ghost use Rattle.bank.specs.Starts.{as_new};
 
 use crate::FirstCome;
 use bank::{Queue, StreamCount};
-
-impl FirstCome {
-    // The stream's place in the order, from 1; 0 where it does not wait.
-    fn place(&self, stream: usize) -> usize
-        ensures { result ≡ place stream (order_of self.now).order }
-    {
-        for j in 0..self.count as usize {
-            if self.order[j] as usize == stream {
-                return j + 1;
-            }
-        }
-        0
-    }
-}
+use bounded::ArrayVec;
 
 impl Queue for FirstCome {
     ghost line = { λ q. order_line (order_of q) };
@@ -42,8 +29,7 @@ impl Queue for FirstCome {
     fn new(streams: StreamCount) -> FirstCome {
         FirstCome {
             size: streams,
-            order: [0; 8],
-            count: 0,
+            order: ArrayVec::new(0),
         }
     }
 
@@ -52,32 +38,23 @@ impl Queue for FirstCome {
     }
 
     fn turns(&self, stream: usize) -> usize {
-        if !self.size.includes(stream) {
-            return 0;
-        }
-        self.size.get()
+        self.size.turns_each(stream)
     }
 
     fn waits(&self, stream: usize) -> bool {
-        self.place(stream) > 0
+        self.order.as_slice().contains(&stream)
     }
 
+    // Alike in each policy, but one form for all would need a ghost member and two laws in each.
     fn put(&mut self, stream: usize) -> bool {
-        if !self.size.includes(stream) || self.place(stream) > 0 {
+        if !self.size.includes(stream) || self.waits(stream) {
             return false;
         }
-        self.order[self.count as usize] = stream as u8;
-        self.count += 1;
-        true
+        // Each stream waits once, so one that does not wait finds room.
+        self.order.push(stream).is_ok()
     }
 
     fn take(&mut self) -> Option<usize> {
-        if self.count == 0 {
-            return None;
-        }
-        let first = self.order[0] as usize;
-        self.order.rotate_left(1);
-        self.count -= 1;
-        Some(first)
+        self.order.remove_first()
     }
 }

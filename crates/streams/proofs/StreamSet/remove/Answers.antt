@@ -1,12 +1,16 @@
-use Rattle.std.proofs.Common.{false, ap, ◌∙◌, ⊎_elim, arith}
+use Rattle.std.proofs.Common.{◌≡◌, ℕ, false, ap, arith}
+use Rattle.std.proofs.lemmas.Bool.Decides.{nat_tests}
+use Rattle.std.proofs.lemmas.Grind.{elements}
 use Rattle.std.proofs.lemmas.List.{get_or_past}
-use Rattle.streams.specs.Members.{members}
-use Rattle.streams.proofs.Sets.{without_gone}
+use Rattle.streams.specs.Members.{members, Numbered}
+use Rattle.streams.specs.Streams.{without}
 use Rattle.streams.proofs.StreamSet.remove.Goals as goal
 
--- a number that no stream has is not in it
-pub returns-then-stream-eq0 : goal.returns-then-stream-eq0
-returns-then-stream-eq0 c =
-    let s = c.args.self.now in
-    without_gone (members s) c.args.stream
-    (⊎_elim (λ e. ap (members s) e ∙ s.none) (λ g. get_or_past s.flags c.args.stream false (omega (arith, s.nine, g.1))) c.then-stream-eq0.either)
+pub returns : goal.returns
+returns c = λ x j. at j x
+  where
+    at : (j : ℕ) → members c.set.new.self j ≡ without (members c.args.self.now) c.args.stream j
+    at j =
+        let inside : Numbered c.args.stream → members c.set.new.self j ≡ without (members c.args.self.now) c.args.stream j = λ n. ap (λ t. t j) (c.set.ensures.within n) in
+        let outside : (Numbered c.args.stream → ⊥) → members c.set.new.self j ≡ members c.args.self.now j = λ o. ap (λ t. members t j) (c.set.ensures.beyond o) in
+        grind (arith, nat_tests, elements, get_or_past c.args.self.now.flags j false)

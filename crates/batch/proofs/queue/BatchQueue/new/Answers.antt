@@ -1,13 +1,10 @@
-use Rattle.std.proofs.Common.{sym, ap, subst}
-use Rattle.streams.specs.Streams.{AllAmong}
+use Rattle.std.proofs.Common.{ap}
 use Rattle.streams.proofs.Sets.{all_nobody}
 use Rattle.batch.proofs.queue.BatchQueue.new.Goals as goal
 
 pub invariant_of-result : goal.invariant_of-result
-invariant_of-result c =
-    let n = c.args.streams.count in
-    record {
-      closing = subst (AllAmong n) (sym c.empty.ensures) (all_nobody n);
-      gathering = subst (AllAmong n) (sym c.empty-2.ensures) (all_nobody n);
-      once = λ i _. ap (λ s. s i) c.empty-2.ensures;
-    }
+invariant_of-result c = record {
+  closing = all_nobody _ _ c.empty.ensures;
+  gathering = all_nobody _ _ c.empty-2.ensures;
+  once = λ i _. ap (λ s. s i) c.empty-2.ensures;
+}

@@ -1,7 +1,6 @@
 use Rattle.std.proofs.Common.{sym, ap, subst}
 use Rattle.batch.specs.Groups.{Apart}
 use Rattle.streams.specs.Members.{members}
-use Rattle.streams.specs.Streams.{AllAmong}
 use Rattle.batch.specs.Views.{groups_of}
 use Rattle.batch.specs.Batches.{closed_apart}
 use Rattle.batch.specs.Held.{apart}
@@ -15,11 +14,8 @@ invariant_of-self c =
     record { closing = a.closed; gathering = a.gathered; once = a.once }
 
 pub invariant_of-self-2 : goal.invariant_of-self-2
-invariant_of-self-2 c =
-    let q = c.args.self.now in
-    let n = q.size.count in
-    record {
-      closing = subst (AllAmong n) (sym c.remove-2.ensures) (all_without n _ _ q.gathering);
-      gathering = subst (AllAmong n) (sym c.empty-self.ensures) (all_nobody n);
-      once = λ i _. ap (λ s. s i) c.empty-self.ensures;
-    }
+invariant_of-self-2 c = record {
+  closing = all_without _ _ _ _ c.args.self.now.gathering c.remove-2.ensures;
+  gathering = all_nobody _ _ c.empty-self.ensures;
+  once = λ i _. ap (λ s. s i) c.empty-self.ensures;
+}

@@ -1,44 +1,51 @@
-use Rattle.std.proofs.Common.{◌≡◌, ◌+◌, ◌<◌, [], ◌∷◌, ◌++◌, take, set, sym, ap, ◌∙◌, arith, length-set}
-use Rattle.std.proofs.lemmas.List.{take_more_set}
-use Rattle.first_come.specs.Order.{all_among, once, Absent}
+use Rattle.std.proofs.Common.{◌≡◌, ℕ, ◌<◌, [], ◌∷◌, ◌++◌, true, length, Ok, Err, Result, sym, refl, ap, ◌∙◌, subst, arith}
+use Rattle.std.proofs.lemmas.List.{length_push}
+use Rattle.std.proofs.lemmas.Bool.Decides.{nat_tests}
+use Rattle.std.specs.Result.{is_ok}
+use Rattle.bounded.specs.Items.{items, Pushed}
+use Rattle.bounded.specs.declared.ArrayVec.{ArrayVec}
+use Rattle.first_come.specs.Order.{all_among, once, Absent, OrderPut}
 use Rattle.first_come.specs.Views.{order_of}
 use Rattle.first_come.specs.Places.{all_among_push, once_push, room}
-use Rattle.bank.proofs.Among.{among_parts}
 use Rattle.first_come.proofs.queue.FirstComeQueue.put.Goals as goal
-use Rattle.first_come.proofs.queue.FirstComeQueue.put.Goals.{Else-place-gt0}
+use Rattle.first_come.proofs.queue.FirstComeQueue.put.Goals.{After-push}
 
-absent : (c : Else-place-gt0) → Absent (order_of c.args.self.now) c.args.stream
-absent c =
-    let i = among_parts c.args.self.now.size.count c.args.stream (sym c.if-not-includes.ensures) in
-    record { low = i.0; high = i.1; new = omega (arith, c.place.ensures, c.if-place-gt0.false) }
+absent : (c : After-push) → Absent (order_of c.args.self.now) c.args.stream
+absent c = record { low = grind (arith, nat_tests); high = grind (arith, nat_tests); new = grind (arith, nat_tests) }
 
 -- one that does not wait finds room
-fits : (c : Else-place-gt0) → c.args.self.now.count < c.args.self.now.size.count
+fits : (c : After-push) → length (items c.args.self.now.order) < c.args.self.now.size.count
 fits c =
     let q = c.args.self.now in
     let a = absent c in
-    room q.size.count q.count c.args.stream q.order (omega (arith, q.eight, q.few, q.size.range)) q.streams q.single a.low a.high a.new
+    room q.size.count c.args.stream (items q.order) q.streams q.single a.low a.high a.new
 
-pushed : (c : Else-place-gt0) → take (c.args.self.now.count + 1) (set c.args.self.now.order c.args.self.now.count c.args.stream) ≡ take c.args.self.now.count c.args.self.now.order ++ c.args.stream ∷ []
-pushed c = let q = c.args.self.now in take_more_set q.order q.count c.args.stream (omega (arith, q.eight, fits c, q.size.range))
+-- with room a push is accepted
+pushed : (v v' : ArrayVec ℕ 8) (x : ℕ) (r : Result (Unit {0}) ℕ) → length (items v) < 8 → Pushed v v' x r → (is_ok r ≡ true) × (items v' ≡ items v ++ x ∷ [])
+pushed v v' x (Ok u) l p = (refl, p.1)
+pushed v v' x (Err y) l p = absurd (omega (arith, p.0))
 
-pub bounds-self-self : goal.bounds-self-self
-bounds-self-self c = omega (arith, fits (goal.at.bounds-self-self c).Else-place-gt0, c.args.self.now.size.range)
+added : (c : After-push) → (is_ok c.push.result ≡ true) × (items c.push.new.self ≡ items c.args.self.now.order ++ c.args.stream ∷ [])
+added c = pushed _ _ _ _ (omega (arith, fits c, c.args.self.now.size.range)) c.push.ensures.cases
 
 pub invariant_of-self : goal.invariant_of-self
 invariant_of-self c =
     let q = c.args.self.now in
-    let h = (goal.at.invariant_of-self c).Else-place-gt0 in
+    let i = c.args.stream in
+    let h = (goal.at.invariant_of-self c).After-push in
     let a = absent h in
-    let rest = take q.count q.order in
+    let is = (added h).1 in
     record {
-      eight = length-set q.order q.count c.args.stream ∙ q.eight;
-      few = omega (arith, fits h);
-      streams = ap (all_among q.size.count) (pushed h) ∙ all_among_push q.size.count c.args.stream rest a.low a.high q.streams;
-      single = ap once (pushed h) ∙ once_push c.args.stream rest a.new q.single;
+      few = omega (arith, ap length is, length_push (items q.order) i, fits h);
+      streams = ap (all_among q.size.count) is ∙ all_among_push q.size.count i (items q.order) a.low a.high q.streams;
+      single = ap once is ∙ once_push i (items q.order) a.new q.single;
     }
 
 pub returns : goal.returns
 returns c =
-    let h = (goal.at.returns c).Else-place-gt0 in
-    (absent h, λ j. record { size = c.args.self.now.size.count; order = pushed h j })
+    let q = c.args.self.now in
+    let h = (goal.at.returns c).After-push in
+    subst
+    (λ r. OrderPut (order_of q) c.args.stream r (record { size = q.size.count; order = items c.push.new.self }))
+    (sym (c.is_ok.ensures.value ∙ (added h).0))
+    (absent h, ap (λ l. record { size = q.size.count; order = l }) (added h).1)
