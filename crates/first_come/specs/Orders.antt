@@ -1,11 +1,11 @@
 -- The first-come queue keeps what a line must.
-use Rattle.std.specs.Prelude.{◌≡◌, ℕ, ◌≤◌, Bool, true, false, length, Some, None, Option, refl}
+use Rattle.std.specs.Prelude.{◌≡◌, ℕ, ◌≤◌, Bool, true, false, [], length, Some, None, Option, refl}
 use Rattle.std.proofs.Common.{ap, arith}
 use Rattle.std.proofs.lemmas.Bool.Decides.{nat_tests}
 use Rattle.bank.specs.Counts.{even_turns}
-use Rattle.bank.specs.Meaning.{Idle, Orderly, SameShape, LinePut, LineTake}
+use Rattle.bank.specs.Meaning.{Within, Idle, Orderly, SameShape, LinePut, LineTake}
 use Rattle.first_come.specs.Order.{Order, place, all_among, once, order_line, new_order, OrderPut, OrderTake}
-use Rattle.first_come.specs.Places.{place_le, place_push, place_push_other, all_among_at}
+use Rattle.first_come.specs.Places.{place_le, place_at, place_push_other, all_among_at}
 
 -- what holds of every order that puts and takes lead to
 pub record Lined (o : Order) : Type 0 where
@@ -14,13 +14,26 @@ pub record Lined (o : Order) : Type 0 where
   pub streams : all_among o.size o.order ≡ true
   pub single : once o.order ≡ true
 
+module _ (o : Order) (i : ℕ) where
+  -- a stream has as many turns as there are streams
+  turns_within : Within (order_line o) i → (order_line o).turns i ≡ o.size
+  turns_within w = grind (arith, nat_tests)
+
+  -- what is no stream has none
+  turns_beyond : (Within (order_line o) i → ⊥) → (order_line o).turns i ≡ 0
+  turns_beyond out = grind (arith, nat_tests)
+
+  -- a place is at most the turns
+  near : Lined o → place i o.order ≤ (order_line o).turns i
+  near l = grind (arith, nat_tests, place_le i o.order, all_among_at o.size i o.order)
+
 -- the numbers of its line keep their ranges
 pub order_orderly : (o : Order) → Lined o → Orderly (order_line o)
 order_orderly o l = record {
   few = l.few;
-  turned = λ i w. (grind (arith, nat_tests), grind (arith, nat_tests));
-  beyond = λ i out. grind (arith, nat_tests);
-  near = λ i. grind (arith, nat_tests, place_le i o.order, all_among_at o.size i o.order);
+  turned = λ i w. omega (arith, turns_within o i w, l.few);
+  beyond = turns_beyond o;
+  near = λ i. near o i l;
 }
 
 -- in a new order nothing waits
@@ -41,8 +54,8 @@ order_putting o i true o' _ l' p =
       record { within = (p.0.low, p.0.high); idle = p.0.new },
       record {
         shape = shape;
-        waits = grind (arith, nat_tests, place_push i o.order);
-        near = grind (arith, nat_tests, place_push i o.order, place_le i o'.order, shape.turns i);
+        waits = grind (arith, nat_tests, place_at i o.order []);
+        near = grind (arith, nat_tests, place_at i o.order [], place_le i o'.order, shape.turns i);
         stays = λ j d h. grind (arith, nat_tests, place_push_other j i o.order);
         rises_not = λ j d. grind (arith, nat_tests, place_push_other j i o.order);
       },
