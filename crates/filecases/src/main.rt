@@ -4,60 +4,76 @@
 
 ghost use Rattle.std.specs.Prelude.{◌<◌, IfSome};
 
-use planfile::LONGEST;
+use plan::Plan;
 use refusal::Refusal;
 use std::alloc::{AllocError, Global};
-use std::fmt::Write;
+use std::fmt;
 
 #[cfg(test)]
 mod tests;
 
+// What a line is answered with.
+#[derive(Drop)]
+enum Answer {
+    // The file that the plan of the line's file writes.
+    Written(Vec<u8>),
+    Refused(Refusal),
+    NotHexadecimal,
+}
+
+impl fmt::Display for Answer {
+    fn fmt<W: fmt::Write>(&self, f: &mut fmt::Formatter<W>) -> fmt::Result {
+        match self {
+            Answer::Written(file) => show_written(file.as_slice(), f),
+            Answer::Refused(refusal) => {
+                let number = refusal.number();
+                let place = refusal.place();
+                write!(f, "{number} {place}")
+            }
+            Answer::NotHexadecimal => write!(f, "not hexadecimal"),
+        }
+    }
+}
+
+// Two digits for each byte.
+fn show_written<W: fmt::Write>(file: &[u8], f: &mut fmt::Formatter<W>) -> fmt::Result {
+    write!(f, "ok ")?;
+    for b in file {
+        write!(f, "{b:02x}")?;
+    }
+    Ok(())
+}
+
 fn main(rt: HostRuntime) -> anyhow::Result<()> {
     for line in rt.lines(rt.alloc()) {
         let line = line?;
-        let answer = answer(rt.alloc(), line.as_str())?;
+        let answer = answer_to(rt.alloc(), line.as_str())?;
         println!(rt; "{answer}")?;
     }
     Ok(())
 }
 
-fn answer(heap: Global, line: &str) -> anyhow::Result<String> {
+fn answer_to(heap: Global, line: &str) -> Result<Answer, AllocError> {
     let Some(file) = bytes(heap, line.as_bytes())? else {
-        return Ok(String::from_str(heap, "not hexadecimal")?);
+        return Ok(Answer::NotHexadecimal);
     };
-    match rewritten(heap, file.as_slice())? {
-        Ok(text) => Ok(format!(in heap; "ok {text}")?),
-        Err(refusal) => {
-            let number = refusal.number();
-            let place = refusal.place();
-            Ok(format!(in heap; "{number} {place}")?)
-        }
+    match planfile::read(file.as_slice()) {
+        Ok(plan) => written(heap, &plan),
+        Err(refusal) => Ok(Answer::Refused(refusal)),
     }
 }
 
-// What the plan of a file writes, in hexadecimal.
-fn rewritten(heap: Global, file: &[u8]) -> anyhow::Result<Result<String, Refusal>> {
-    let plan = match planfile::read(file) {
-        Ok(plan) => plan,
-        Err(refusal) => return Ok(Err(refusal)),
-    };
-    let mut out = [0; LONGEST];
-    match planfile::write(&plan, &mut out) {
-        Ok(n) => Ok(Ok(hexadecimal(heap, &out, n)?)),
-        Err(refusal) => Ok(Err(refusal)),
+// What the plan writes.
+fn written(heap: Global, plan: &Plan) -> Result<Answer, AllocError> {
+    let mut file = vec![in heap; 0; planfile::size(plan)]?;
+    match planfile::write(plan, file.as_mut_slice()) {
+        Ok(_) => Ok(Answer::Written(file)),
+        Err(refusal) => Ok(Answer::Refused(refusal)),
     }
 }
 
-// The first `n` bytes, two digits each.
-fn hexadecimal(heap: Global, bytes: &[u8], n: usize) -> anyhow::Result<String> {
-    let mut text = String::new(heap);
-    for b in bytes.iter().take(n) {
-        write!(text, "{b:02x}")?;
-    }
-    Ok(text)
-}
-
-// The bytes that pairs of digits stand for.
+// The bytes that pairs of digits stand for. (The library's `hex` takes capitals too, which are no
+// digits here.)
 fn bytes(heap: Global, digits: &[u8]) -> Result<Option<Vec<u8>>, AllocError> {
     let mut all = Vec::new(heap);
     for pair in digits.chunks(2) {

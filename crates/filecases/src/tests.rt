@@ -1,5 +1,5 @@
 use bounded::ArrayVec;
-use plan::{HighStream, LowStream, Master, Plan};
+use plan::{HighStream, LowStream, Master, Plan, Times};
 use planfile::LONGEST;
 use refusal::{Place, Refusal};
 use std::process::Abort;
@@ -10,33 +10,27 @@ const FIGURE: [u8; 49] =
     *b"\x01\x00\x05\x01\x00\x00\x00\x64\x00\x03\x02\x00\x0a\x00\x0b\x03\x00\x32\x00\x00\x01\x2c\x00\x05\x00\x05\x00\x03\x04\x00\x50\x00\x03\x02\x00\x0a\x00\x0b\x03\x00\x3c\x00\x00\x01\x18\x00\x05\x00\x05";
 
 fn master(hop: u16) -> Result<Master, Fail> {
-    match Master::new(hop) {
-        Some(master) => Ok(master),
-        None => Err(Fail::new("a hop out of range")),
-    }
+    Master::new(hop).ok_or_else(|| Fail::new("a hop out of range"))
 }
 
 fn high(cycle: u16, deadline: u32, generation: u16, delivery: u16) -> Result<HighStream, Fail> {
-    match HighStream::new(cycle, deadline, generation, delivery) {
-        Some(high) => Ok(high),
-        None => Err(Fail::new("a high stream out of range")),
-    }
+    let times = Times {
+        cycle,
+        deadline,
+        generation,
+        delivery,
+    };
+    HighStream::new(times).ok_or_else(|| Fail::new("a high stream out of range"))
 }
 
 fn low(cycle: u16) -> Result<LowStream, Fail> {
-    match LowStream::new(cycle) {
-        Some(low) => Ok(low),
-        None => Err(Fail::new("a low stream out of range")),
-    }
+    LowStream::new(cycle).ok_or_else(|| Fail::new("a low stream out of range"))
 }
 
 fn plan_of(rt: &impl Abort, target: u32, first: Master) -> Result<Plan, Fail> {
     let mut masters = ArrayVec::new(first);
     assert!(rt; masters.push(first).is_ok());
-    match Plan::of(target, masters) {
-        Some(plan) => Ok(plan),
-        None => Err(Fail::new("no plan")),
-    }
+    Plan::of(target, masters).ok_or_else(|| Fail::new("no plan"))
 }
 
 fn two_masters(rt: &impl Abort) -> Result<Plan, Fail> {

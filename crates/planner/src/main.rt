@@ -11,7 +11,7 @@ use std::alloc::{AllocError, Global};
 use std::fmt::Write;
 use std::io::ErrorKind;
 use std::process::ExitCode;
-use std::{env, fs, io};
+use std::{env, fmt, fs, io};
 
 #[cfg(test)]
 mod tests;
@@ -26,10 +26,7 @@ fn main(rt: HostRuntime) -> ExitCode {
 
 fn run(rt: &HostRuntime) -> anyhow::Result<()> {
     let name = file_name(rt)?;
-    let file = match contents(rt, name.as_str()) {
-        Ok(file) => file,
-        Err(e) => return Err(anyhow!(format!(in rt.alloc(); "{name}: {e}")?)),
-    };
+    let file = contents(rt, name.as_str()).map_err(|e| anyhow!("{name}: {e}"))?;
     let report = report(rt.alloc(), name.as_str(), file.as_slice())?;
     print!(rt; "{report}")?;
     Ok(())
@@ -91,25 +88,19 @@ fn plan_lines(heap: Global, name: &str, plan: &Plan) -> anyhow::Result<String> {
 fn add_master(text: &mut String, number: usize, master: &Master) -> anyhow::Result<()> {
     let hop = master.hop();
     writeln!(text, "master {number}: hop {hop}")?;
-    for (i, high) in master.highs().iter().enumerate() {
-        let stream = i + 1;
-        let cycle = high.cycle();
-        let deadline = high.deadline();
-        let generation = high.generation();
-        let delivery = high.delivery();
-        writeln!(
-            text,
-            "  high {stream}: cycle {cycle}, deadline {deadline}, generation {generation}, delivery {delivery}"
-        )?;
-    }
-    add_lows(text, master)
+    add_streams(text, "high", master.highs())?;
+    add_streams(text, "low", master.lows())
 }
 
-fn add_lows(text: &mut String, master: &Master) -> anyhow::Result<()> {
-    for (i, low) in master.lows().iter().enumerate() {
-        let stream = i + 1;
-        let cycle = low.cycle();
-        writeln!(text, "  low {stream}: cycle {cycle}")?;
+// A line for each stream, numbered from 1.
+fn add_streams<S: fmt::Display>(
+    text: &mut String,
+    kind: &str,
+    streams: &[S],
+) -> anyhow::Result<()> {
+    for (i, stream) in streams.iter().enumerate() {
+        let number = i + 1;
+        writeln!(text, "  {kind} {number}: {stream}")?;
     }
     Ok(())
 }
