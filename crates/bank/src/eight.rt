@@ -66,6 +66,8 @@ impl<Q: Queue> Bank for QueueBank<Q> {
             .is_some_and(|queue| queue.waits(stream))
     }
 
+    // A put and a take copy the queue out and put it back: for a `&mut` into the array no clause is
+    // proved that says what it leaves there.
     fn put(&mut self, master: usize, stream: usize) -> bool {
         let Some(mut queue) = self.queues.get(master) else {
             return false;
