@@ -1,5 +1,5 @@
 -- One record more behind a plan in the making: what it takes to fit, and what it cannot be.
-use Rattle.std.proofs.Common.{◌≡◌, ℕ, ◌<◌, ◌≤◌, List, [], ◌∷◌, ◌++◌, map, length, sym, refl, ap, ◌∙◌, subst, arith}
+use Rattle.std.proofs.Common.{◌≡◌, ℕ, ◌<◌, ◌≤◌, List, [], ◌∷◌, ◌++◌, map, length, refl, ap, ◌∙◌, arith}
 use Rattle.std.proofs.lemmas.List.{length_push, length-map, map_push, nil_from_length}
 use Rattle.refusal.specs.declared.Refusal.TheVariants.{BadRecord, TooMany, OutOfRange}
 use Rattle.plan.specs.Net.{Station, bare, with_high, with_low, TargetInRange, HopInRange, CycleInRange, StreamInRange}
@@ -50,11 +50,9 @@ pub first_beyond : (t h at : ℕ) → (HopInRange h → ⊥) → Unfit (ringed t
 first_beyond t h at off = beyond _ first (omega arith, omega arith, omega arith) off
 
 pub first_fits : (t h : ℕ) (done : List Station) (m : Station) → done ≡ [] → m ≡ bare h → HopInRange h → Fits (ringed t) (Master h) (growing t done m)
-first_fits t h done m d e range =
-    let made : growing t [] (bare h) ≡ growing t done m = λ i. growing t (sym d i) (sym e i) in
-    subst (λ g. Fits (ringed t) (Master h) g) made record { next = first; room = (omega arith, omega arith, omega arith); range = range }
+first_fits t h done m d e range = rw (d, e) record { next = first; room = (omega arith, omega arith, omega arith); range = range }
 
-module _ (t at : ℕ) (done : List Station) (m : Station) (few : length done < 8) where
+module _ (t at : ℕ) (done : List Station) (m : Station) where
   pub master_crowded : (h : ℕ) → 8 ≤ length (done ++ m ∷ []) → Unfit (growing t done m) (Master h) at (TooMany at)
   master_crowded h full = crowded _ master (λ room. omega (arith, room.0))
 
@@ -62,48 +60,40 @@ module _ (t at : ℕ) (done : List Station) (m : Station) (few : length done < 8
   master_beyond h room off = beyond _ master (room, omega arith, omega arith) off
 
   pub master_fits : (h : ℕ) (done' : List Station) (m' : Station) → done' ≡ done ++ m ∷ [] → m' ≡ bare h → length done' < 8 → HopInRange h → Fits (growing t done m) (Master h) (growing t done' m')
-  master_fits h done' m' d e room range = record {
-    next = subst (λ g. Next (growing t done m) (Master h) g) (λ i. growing t (sym d i) (sym e i)) master;
-    room = (room, omega (arith, ap (λ x. length x.highs) e), omega (arith, ap (λ x. length x.lows) e));
-    range = range;
-  }
+  master_fits h done' m' d e room range = rw (d, e) record { next = master; room = (omega (arith, ap length d), omega arith, omega arith); range = range }
 
-  module _ (s : Times) where
-    pub high_misplaced : 0 < length m.lows → Unfit (growing t done m) (High s) at (BadRecord at)
-    high_misplaced some = misplaced out_of_order
-      where
-        out_of_order : (f : Front) → Next (growing t done m) (High s) f → ⊥
-        out_of_order f (high none) = omega (arith, some, ap length none)
+  pub high_misplaced : (s : Times) → 0 < length m.lows → Unfit (growing t done m) (High s) at (BadRecord at)
+  high_misplaced s some = misplaced out_of_order
+    where
+      out_of_order : (f : Front) → Next (growing t done m) (High s) f → ⊥
+      out_of_order f (high none) = omega (arith, some, ap length none)
 
-    module _ (none : length m.lows ≡ 0) where
-      pub high_crowded : 8 ≤ length m.highs → Unfit (growing t done m) (High s) at (TooMany at)
-      high_crowded full = crowded _ (high (nil_from_length m.lows none)) (λ room. omega (arith, room.1, length_push m.highs (told s)))
+  pub high_crowded : (s : Times) → length m.lows ≡ 0 → 8 ≤ length m.highs → Unfit (growing t done m) (High s) at (TooMany at)
+  high_crowded s none full = crowded _ (high (nil_from_length m.lows none)) (λ room. omega (arith, room.1, length_push m.highs (told s)))
 
-      -- room for one more high stream
-      high_room : length m.highs < 8 → Room (growing t done (with_high m (told s)))
-      high_room room = (few, omega (arith, length_push m.highs (told s)), omega arith)
+  pub low_crowded : (c : ℕ) → 4 ≤ length m.lows → Unfit (growing t done m) (Low c) at (TooMany at)
+  low_crowded c full = crowded _ low (λ room. omega (arith, room.2, length_push m.lows c))
 
-      pub high_beyond : length m.highs < 8 → (StreamInRange (told s) → ⊥) → Unfit (growing t done m) (High s) at (OutOfRange at)
-      high_beyond room off = beyond _ (high (nil_from_length m.lows none)) (high_room room) off
+  module _ (few : length done < 8) where
+    module _ (s : Times) (none : length m.lows ≡ 0) (room : length m.highs < 8) where
+      high_room : Room (growing t done (with_high m (told s)))
+      high_room = (few, omega (arith, length_push m.highs (told s)), omega arith)
 
-      pub high_fits : (m' : Station) → m' ≡ with_high m (told s) → length m.highs < 8 → StreamInRange (told s) → Fits (growing t done m) (High s) (growing t done m')
-      high_fits m' e room range =
-          subst (λ x. Fits (growing t done m) (High s) (growing t done x)) (sym e)
-          record { next = high (nil_from_length m.lows none); room = high_room room; range = range }
+      pub high_beyond : (StreamInRange (told s) → ⊥) → Unfit (growing t done m) (High s) at (OutOfRange at)
+      high_beyond off = beyond _ (high (nil_from_length m.lows none)) high_room off
 
-  module _ (c : ℕ) where
-    pub low_crowded : 4 ≤ length m.lows → Unfit (growing t done m) (Low c) at (TooMany at)
-    low_crowded full = crowded _ low (λ room. omega (arith, room.2, length_push m.lows c))
+      pub high_fits : (m' : Station) → m' ≡ with_high m (told s) → StreamInRange (told s) → Fits (growing t done m) (High s) (growing t done m')
+      high_fits m' e range = rw e record { next = high (nil_from_length m.lows none); room = high_room; range = range }
 
-    low_room : length m.highs ≤ 8 → length m.lows < 4 → Room (growing t done (with_low m c))
-    low_room few_highs room = (few, few_highs, omega (arith, length_push m.lows c))
+    module _ (c : ℕ) (few_highs : length m.highs ≤ 8) (room : length m.lows < 4) where
+      low_room : Room (growing t done (with_low m c))
+      low_room = (few, few_highs, omega (arith, length_push m.lows c))
 
-    pub low_beyond : length m.highs ≤ 8 → length m.lows < 4 → (CycleInRange c → ⊥) → Unfit (growing t done m) (Low c) at (OutOfRange at)
-    low_beyond few_highs room off = beyond _ low (low_room few_highs room) off
+      pub low_beyond : (CycleInRange c → ⊥) → Unfit (growing t done m) (Low c) at (OutOfRange at)
+      low_beyond off = beyond _ low low_room off
 
-    pub low_fits : (m' : Station) → m' ≡ with_low m c → length m.highs ≤ 8 → length m.lows < 4 → CycleInRange c → Fits (growing t done m) (Low c) (growing t done m')
-    low_fits m' e few_highs room range =
-        subst (λ x. Fits (growing t done m) (Low c) (growing t done x)) (sym e) record { next = low; room = low_room few_highs room; range = range }
+      pub low_fits : (m' : Station) → m' ≡ with_low m c → CycleInRange c → Fits (growing t done m) (Low c) (growing t done m')
+      low_fits m' e range = rw e record { next = low; room = low_room; range = range }
 
 module _ (g : Growing) where
   pub few_done : length (map station_of (items g.done)) < 8

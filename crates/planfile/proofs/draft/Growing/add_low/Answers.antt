@@ -9,7 +9,7 @@ use Rattle.planfile.proofs.Growth.{few_done, low_crowded, low_beyond, low_fits}
 use Rattle.planfile.proofs.draft.Growing.add_low.Goals as goal
 
 pub returns-then-lows-eq-LOWS : goal.returns-then-lows-eq-LOWS
-returns-then-lows-eq-LOWS c = search (rules, low_crowded, few_done)
+returns-then-lows-eq-LOWS c = search (rules, low_crowded)
 
 pub returns-in_err-low : goal.returns-in_err-low
 returns-in_err-low c =
@@ -20,4 +20,4 @@ pub returns : goal.returns
 returns c =
     let made = MatchOption-at_some _ _ _ c.in_ok-low.ensures.ok_part c.new.ensures in
     let added = MatchResult-at_ok _ _ _ c.unwrap.ensures c.add_low.ensures in
-    low_fits _ 0 _ _ (few_done c.args.self) _ _ (added.1 ∙ ap (with_low (station_of c.args.self.last)) made.1) (station_in_range c.args.self.last).few_highs added.0 made.0
+    low_fits _ 0 _ _ (few_done c.args.self) _ (station_in_range c.args.self.last).few_highs added.0 _ (added.1 ∙ ap (with_low (station_of c.args.self.last)) made.1) made.0
