@@ -35,6 +35,7 @@ impl TryFrom<&[u8]> for Call {
         };
         let numbers = numbers(digits)?;
         let [master, stream, ..] = numbers;
+        // The letters are how a line is written, and are read here alone.
         match *letter {
             b's' => Ok(Call::Shape(numbers)),
             b'n' => Ok(Call::Size { master }),

@@ -27,6 +27,7 @@ fn main(rt: HostRuntime) -> anyhow::Result<()> {
     Ok(())
 }
 
+// The letters are how a line is written; a bank of each policy is a type, so no value stands for one.
 fn life(heap: Global, line: &[u8]) -> anyhow::Result<String> {
     match line {
         [b'f', calls @ ..] => play(heap, FirstComeBank::new(), calls),

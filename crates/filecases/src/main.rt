@@ -72,7 +72,7 @@ fn written(heap: Global, plan: &Plan) -> Result<Answer, AllocError> {
     }
 }
 
-// The bytes that pairs of digits stand for. (The library's `hex` takes capitals too, which are no
+// The bytes that pairs of digits stand for; what fails is memory, so the `Option` is in a `Result`. (The library's `hex` takes capitals too, which are no
 // digits here.)
 fn bytes(heap: Global, digits: &[u8]) -> Result<Option<Vec<u8>>, AllocError> {
     let mut all = Vec::new(heap);

@@ -28,6 +28,8 @@ impl HighStream {
         self.times
     }
 
+    // The four calls below differ in the field alone: a generic one would need a name for each field.
+
     /// The longest cycle, with all retries in it.
     pub fn cycle(&self) -> u16
         ensures { result ≡ (stream_of self.now).cycle }

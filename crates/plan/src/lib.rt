@@ -65,6 +65,7 @@ pub struct Master {
 }
 
 /// A target rotation time; 0 means not set.
+// No `Option` of a time: a file and a caller say 0 for it, and what is computed reads the number.
 #[derive(Clone, Copy)]
 pub struct Target {
     time: u32,

@@ -43,6 +43,9 @@ impl Master {
         self.hop
     }
 
+    // High and low streams have the same calls, and `ArrayVec` is what is generic of them: a trait for
+    // the two kinds would say no less.
+
     /// The high streams.
     pub fn highs(&self) -> &[HighStream]
         ensures value { map stream_of result.now ≡ (station_of self.now).highs }

@@ -5,7 +5,8 @@ ghost use Rattle.planfile.specs.Laying.{Put};
 
 use plan::Times;
 
-// The kinds of record, which stand in front of their bodies.
+// The kinds of record, as a file has them in front of the bodies. In the code a kind is a case of
+// `Record`.
 const RING: u8 = 1;
 
 const MASTER: u8 = 2;
@@ -83,6 +84,7 @@ fn put_framed<const N: usize>(out: &mut [u8], contents: [u8; N]) -> usize
     requires room { N + 2 ≤ length out.old }
     ensures { Put (framed contents.entry) out.old out.new result }
 {
+    // `as` loses nothing here, and `try_from` would bring a case that never comes.
     out[..2].copy_from_slice(&(N as u16).to_be_bytes());
     out[2..N + 2].copy_from_slice(&contents);
     N + 2

@@ -8,7 +8,6 @@ use anyhow::anyhow;
 use plan::{Master, Plan};
 use refusal::Refusal;
 use std::alloc::{AllocError, Global};
-use std::fmt::Write;
 use std::io::ErrorKind;
 use std::process::ExitCode;
 use std::{env, fmt, fs, io};
@@ -53,11 +52,62 @@ fn contents(rt: &HostRuntime, name: &str) -> io::Result<Vec<u8>> {
     }
 }
 
+// What is told of a plan, behind the name of its file.
+#[derive(Clone, Copy)]
+struct Lines<'a>(&'a Plan);
+
+impl fmt::Display for Lines<'_> {
+    fn fmt<W: fmt::Write>(&self, f: &mut fmt::Formatter<W>) -> fmt::Result {
+        let plan = self.0;
+        let masters = plan.masters();
+        let count = masters.len();
+        let plural = if count == 1 { "" } else { "s" };
+        let walk = plan.walk();
+        let target = plan.target();
+        let unset = if target == 0 { " (not set)" } else { "" };
+        writeln!(
+            f,
+            "{count} master{plural}, walk {walk}, target {target}{unset}"
+        )?;
+        for (i, master) in masters.iter().enumerate() {
+            show_master(f, i + 1, master)?;
+        }
+        Ok(())
+    }
+}
+
+fn show_master<W: fmt::Write>(
+    f: &mut fmt::Formatter<W>,
+    number: usize,
+    master: &Master,
+) -> fmt::Result {
+    let hop = master.hop();
+    writeln!(f, "master {number}: hop {hop}")?;
+    show_streams(f, "high", master.highs())?;
+    show_streams(f, "low", master.lows())
+}
+
+// A line for each stream, numbered from 1.
+fn show_streams<W: fmt::Write, S: fmt::Display>(
+    f: &mut fmt::Formatter<W>,
+    kind: &str,
+    streams: &[S],
+) -> fmt::Result {
+    for (i, stream) in streams.iter().enumerate() {
+        let number = i + 1;
+        writeln!(f, "  {kind} {number}: {stream}")?;
+    }
+    Ok(())
+}
+
 // The lines that tell what is in a file, or the one that tells why it is turned down.
-fn report(heap: Global, name: &str, file: &[u8]) -> anyhow::Result<String> {
+fn report(heap: Global, name: &str, file: &[u8]) -> Result<String, AllocError> {
     match planfile::read(file) {
-        Ok(plan) => plan_lines(heap, name, &plan),
-        Err(refusal) => Ok(refusal_line(heap, name, refusal)?),
+        Ok(plan) => {
+            let lines = Lines(&plan);
+            format!(in heap; "{name}: {lines}")
+        }
+        Err(refusal) => refusal_line(heap, name, refusal),
     }
 }
 
@@ -65,42 +115,4 @@ fn refusal_line(heap: Global, name: &str, refusal: Refusal) -> Result<String, Al
     ensures { IfOk result (λ s. string_bytes s ≡ name.now ++ (codes ": " ++ (refusal_text refusal ++ codes "\n"))) }
 {
     format!(in heap; "{name}: {refusal}\n")
-}
-
-fn plan_lines(heap: Global, name: &str, plan: &Plan) -> anyhow::Result<String> {
-    let mut text = String::new(heap);
-    let masters = plan.masters();
-    let count = masters.len();
-    let plural = if count == 1 { "" } else { "s" };
-    let walk = plan.walk();
-    let target = plan.target();
-    let unset = if target == 0 { " (not set)" } else { "" };
-    writeln!(
-        text,
-        "{name}: {count} master{plural}, walk {walk}, target {target}{unset}"
-    )?;
-    for (i, master) in masters.iter().enumerate() {
-        add_master(&mut text, i + 1, master)?;
-    }
-    Ok(text)
-}
-
-fn add_master(text: &mut String, number: usize, master: &Master) -> anyhow::Result<()> {
-    let hop = master.hop();
-    writeln!(text, "master {number}: hop {hop}")?;
-    add_streams(text, "high", master.highs())?;
-    add_streams(text, "low", master.lows())
-}
-
-// A line for each stream, numbered from 1.
-fn add_streams<S: fmt::Display>(
-    text: &mut String,
-    kind: &str,
-    streams: &[S],
-) -> anyhow::Result<()> {
-    for (i, stream) in streams.iter().enumerate() {
-        let number = i + 1;
-        writeln!(text, "  {kind} {number}: {stream}")?;
-    }
-    Ok(())
 }
