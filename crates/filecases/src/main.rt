@@ -2,99 +2,109 @@
 // the bytes that its plan writes, or the number and the place of its refusal.
 #![tactic(auto)]
 
-ghost use Rattle.std.specs.Prelude.{◌<◌, IfSome};
+ghost use Rattle.std.specs.Prelude.{◌<◌, IfOk};
 
-use plan::Plan;
 use refusal::Refusal;
-use std::alloc::{AllocError, Global};
+use std::alloc::{AllocError, AllocFailed, Global};
 use std::fmt;
 
 #[cfg(test)]
 mod tests;
 
-// What a line is answered with.
-#[derive(Drop)]
-enum Answer {
-    // The file that the plan of the line's file writes.
-    Written(Vec<u8>),
-    Refused(Refusal),
+// Why the file of a line is not written back.
+#[derive(Clone, Copy)]
+enum Failure {
     NotHexadecimal,
+    Refused(Refusal),
+    OutOfMemory,
 }
 
-impl fmt::Display for Answer {
+impl From<Refusal> for Failure {
+    fn from(refusal: Refusal) -> Failure {
+        Failure::Refused(refusal)
+    }
+}
+
+impl From<AllocError> for Failure {
+    fn from(_: AllocError) -> Failure {
+        Failure::OutOfMemory
+    }
+}
+
+impl<T: Drop> From<AllocFailed<T>> for Failure {
+    fn from(_: AllocFailed<T>) -> Failure {
+        Failure::OutOfMemory
+    }
+}
+
+impl fmt::Display for Failure {
     fn fmt<W: fmt::Write>(&self, f: &mut fmt::Formatter<W>) -> fmt::Result {
         match self {
-            Answer::Written(file) => show_written(file.as_slice(), f),
-            Answer::Refused(refusal) => {
+            Failure::NotHexadecimal => write!(f, "not hexadecimal"),
+            Failure::Refused(refusal) => {
                 let number = refusal.number();
                 let place = refusal.place();
                 write!(f, "{number} {place}")
             }
-            Answer::NotHexadecimal => write!(f, "not hexadecimal"),
+            Failure::OutOfMemory => write!(f, "out of memory"),
         }
     }
 }
 
-// Two digits for each byte.
-fn show_written<W: fmt::Write>(file: &[u8], f: &mut fmt::Formatter<W>) -> fmt::Result {
-    write!(f, "ok ")?;
-    for b in file {
-        write!(f, "{b:02x}")?;
+// Bytes in hexadecimal, two digits each.
+#[derive(Clone, Copy)]
+struct Digits<'a>(&'a [u8]);
+
+impl fmt::Display for Digits<'_> {
+    fn fmt<W: fmt::Write>(&self, f: &mut fmt::Formatter<W>) -> fmt::Result {
+        for b in self.0 {
+            write!(f, "{b:02x}")?;
+        }
+        Ok(())
     }
-    Ok(())
 }
 
 fn main(rt: HostRuntime) -> anyhow::Result<()> {
     for line in rt.lines(rt.alloc()) {
         let line = line?;
-        let answer = answer_to(rt.alloc(), line.as_str())?;
-        println!(rt; "{answer}")?;
+        match rewritten(rt.alloc(), line.as_str()) {
+            Ok(file) => println!(rt; "ok {}", Digits(file.as_slice()))?,
+            Err(Failure::OutOfMemory) => return Err(AllocError.into()),
+            Err(failure) => println!(rt; "{failure}")?,
+        }
     }
     Ok(())
 }
 
-fn answer_to(heap: Global, line: &str) -> Result<Answer, AllocError> {
-    let Some(file) = bytes(heap, line.as_bytes())? else {
-        return Ok(Answer::NotHexadecimal);
-    };
-    match planfile::read(file.as_slice()) {
-        Ok(plan) => written(heap, &plan),
-        Err(refusal) => Ok(Answer::Refused(refusal)),
-    }
+// The file that the plan of a line's file is written as.
+fn rewritten(heap: Global, line: &str) -> Result<Vec<u8>, Failure> {
+    let file = bytes(heap, line.as_bytes())?;
+    let plan = planfile::read(file.as_slice())?;
+    let mut out = vec![in heap; 0; planfile::size(&plan)]?;
+    planfile::write(&plan, out.as_mut_slice())?;
+    Ok(out)
 }
 
-// What the plan writes.
-fn written(heap: Global, plan: &Plan) -> Result<Answer, AllocError> {
-    let mut file = vec![in heap; 0; planfile::size(plan)]?;
-    match planfile::write(plan, file.as_mut_slice()) {
-        Ok(_) => Ok(Answer::Written(file)),
-        Err(refusal) => Ok(Answer::Refused(refusal)),
-    }
-}
-
-// The bytes that pairs of digits stand for; what fails is memory, so the `Option` is in a `Result`. (The library's `hex` takes capitals too, which are no
+// The bytes that pairs of digits stand for. (The library's `hex` takes capitals too, which are no
 // digits here.)
-fn bytes(heap: Global, digits: &[u8]) -> Result<Option<Vec<u8>>, AllocError> {
+fn bytes(heap: Global, digits: &[u8]) -> Result<Vec<u8>, Failure> {
     let mut all = Vec::new(heap);
     for pair in digits.chunks(2) {
         let [high, low] = pair else {
-            return Ok(None);
+            return Err(Failure::NotHexadecimal);
         };
-        let (Some(high), Some(low)) = (digit(*high), digit(*low)) else {
-            return Ok(None);
-        };
-        all.push(16 * high + low)?;
+        all.push(16 * digit(*high)? + digit(*low)?)?;
     }
-    Ok(Some(all))
+    Ok(all)
 }
 
 // The number of a hexadecimal digit.
-fn digit(c: u8) -> Option<u8>
-    ensures { IfSome result (λ d. d < 16) }
+fn digit(c: u8) -> Result<u8, Failure>
+    ensures { IfOk result (λ d. d < 16) }
 {
     match c {
-        b'0'..=b'9' => Some(c - b'0'),
-        b'a'..=b'f' => Some(c - b'a' + 10),
-        _ => None,
+        b'0'..=b'9' => Ok(c - b'0'),
+        b'a'..=b'f' => Ok(c - b'a' + 10),
+        _ => Err(Failure::NotHexadecimal),
     }
 }

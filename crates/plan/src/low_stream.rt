@@ -7,6 +7,8 @@ use crate::LowStream;
 use std::fmt;
 
 impl LowStream {
+    // Like `Master::new` over another range: one test, which a function for both would not shorten.
+
     /// A low stream with this longest cycle; none where that is out of its range.
     pub fn new(cycle: u16) -> Option<LowStream>
         ensures { MatchOption result (CycleInRange cycle → ⊥) (λ s. CycleInRange cycle × (cycle_of s ≡ cycle)) }

@@ -76,6 +76,7 @@ impl Growing {
         Ok(Draft::Masters(Growing { target, done, last }))
     }
 
+    // A high and a low stream are added alike, but each has an order, a room and a range of its own.
     fn add_high(mut self, times: Times, at: usize) -> Result<Draft, Refusal>
         ensures { Grows (grown self) (Record.High times) at result }
     {
