@@ -33,6 +33,7 @@ impl<Q: Queue> QueueBank<Q> {
     fn with_sizes(sizes: [usize; 8]) -> Result<QueueBank<Q>, Refusal>
         ensures { Built Q.Queue.starts sizes result }
     {
+        // An array's `try_map` and `map` get no proof here: `Q::new` answers a type parameter.
         let mut queues = PerMaster::all(Q::new(StreamCount::zero()));
         for (index, size) in sizes.iter().enumerate() {
             queues.set(index + 1, Q::new(StreamCount::try_from(*size)?));
@@ -66,8 +67,8 @@ impl<Q: Queue> Bank for QueueBank<Q> {
             .is_some_and(|queue| queue.waits(stream))
     }
 
-    // A put and a take copy the queue out and put it back: for a `&mut` into the array no clause is
-    // proved that says what it leaves there.
+    // A put and a take copy the queue out and put it back, since no clause says what a `&mut` into the
+    // array leaves there.
     fn put(&mut self, master: usize, stream: usize) -> bool {
         let Some(mut queue) = self.queues.get(master) else {
             return false;

@@ -16,7 +16,7 @@ pub use waiting::{any_waits, any_waits_at, take_until};
 /// The high requests that wait at all masters. Masters and streams are numbered from 1; any number
 /// may be asked, and what does not exist has size and turns 0 and does not wait.
 // A master and a stream are two numbers, since a size and a take ask for the master alone: a struct of
-// both would be made at each call and taken apart in it.
+// both would be built at each call only to be taken apart in it.
 pub trait Bank {
     /// Sizes, turns and left numbers, by master.
     ghost meaning: { Self → Meaning };
@@ -117,7 +117,8 @@ pub struct QueueBank<Q> {
     queues: PerMaster<Q>,
 }
 
-// One value for each of the eight masters.
+// One value for each of the eight masters. (The flags of a set of streams are kept likewise; a crate
+// for both would be longer than the two.)
 #[derive(Clone, Copy)]
 struct PerMaster<T> {
     values: [T; 8],

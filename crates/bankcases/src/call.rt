@@ -18,7 +18,7 @@ pub enum Call {
 }
 
 // Why what is written is no call.
-#[derive(Clone, Copy)]
+#[derive(Clone, Copy, Debug)]
 pub enum Unreadable {
     CutShort,
     NoSuchCall,

@@ -61,10 +61,7 @@ impl<T: Copy, const N: usize> ArrayVec<T, N> {
     pub fn remove_first(&mut self) -> Option<T>
         ensures { FirstRemoved self.old self.new result }
     {
-        if self.len == 0 {
-            return None;
-        }
-        let first = self.slots[0];
+        let first = self.as_slice().first().copied()?;
         self.slots.rotate_left(1);
         self.len -= 1;
         Some(first)

@@ -57,7 +57,7 @@ impl Queue for Cyclic {
         self.waiting.contains(stream)
     }
 
-    // Alike in each policy, but one form for all would need a ghost member and two laws in each.
+    // The same in each policy; one body for all would need a ghost member and two laws in each.
     fn put(&mut self, stream: usize) -> bool {
         if !self.size.includes(stream) || self.waiting.contains(stream) {
             return false;

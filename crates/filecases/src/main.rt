@@ -16,7 +16,7 @@ mod tests;
 enum Failure {
     NotHexadecimal,
     Refused(Refusal),
-    OutOfMemory,
+    OutOfMemory(AllocError),
 }
 
 impl From<Refusal> for Failure {
@@ -26,14 +26,14 @@ impl From<Refusal> for Failure {
 }
 
 impl From<AllocError> for Failure {
-    fn from(_: AllocError) -> Failure {
-        Failure::OutOfMemory
+    fn from(e: AllocError) -> Failure {
+        Failure::OutOfMemory(e)
     }
 }
 
 impl<T: Drop> From<AllocFailed<T>> for Failure {
-    fn from(_: AllocFailed<T>) -> Failure {
-        Failure::OutOfMemory
+    fn from(e: AllocFailed<T>) -> Failure {
+        Failure::OutOfMemory(e.into())
     }
 }
 
@@ -46,21 +46,8 @@ impl fmt::Display for Failure {
                 let place = refusal.place();
                 write!(f, "{number} {place}")
             }
-            Failure::OutOfMemory => write!(f, "out of memory"),
+            Failure::OutOfMemory(e) => write!(f, "{e}"),
         }
-    }
-}
-
-// Bytes in hexadecimal, two digits each.
-#[derive(Clone, Copy)]
-struct Digits<'a>(&'a [u8]);
-
-impl fmt::Display for Digits<'_> {
-    fn fmt<W: fmt::Write>(&self, f: &mut fmt::Formatter<W>) -> fmt::Result {
-        for b in self.0 {
-            write!(f, "{b:02x}")?;
-        }
-        Ok(())
     }
 }
 
@@ -68,8 +55,11 @@ fn main(rt: HostRuntime) -> anyhow::Result<()> {
     for line in rt.lines(rt.alloc()) {
         let line = line?;
         match rewritten(rt.alloc(), line.as_str()) {
-            Ok(file) => println!(rt; "ok {}", Digits(file.as_slice()))?,
-            Err(Failure::OutOfMemory) => return Err(AllocError.into()),
+            Ok(file) => {
+                let digits = hex::encode(rt.alloc(), file.as_slice())?;
+                println!(rt; "ok {digits}")?;
+            }
+            Err(Failure::OutOfMemory(e)) => return Err(e.into()),
             Err(failure) => println!(rt; "{failure}")?,
         }
     }
@@ -85,8 +75,8 @@ fn rewritten(heap: Global, line: &str) -> Result<Vec<u8>, Failure> {
     Ok(out)
 }
 
-// The bytes that pairs of digits stand for. (The library's `hex` takes capitals too, which are no
-// digits here.)
+// The bytes that pairs of digits stand for. (`hex::decode` takes capitals too, which are no digits
+// here.)
 fn bytes(heap: Global, digits: &[u8]) -> Result<Vec<u8>, Failure> {
     let mut all = Vec::new(heap);
     for pair in digits.chunks(2) {

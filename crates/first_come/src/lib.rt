@@ -17,7 +17,7 @@ pub type FirstComeBank = QueueBank<FirstCome>;
 #[derive(Clone, Copy)]
 pub struct FirstCome {
     size: StreamCount,
-    // Those that wait, the longest waiting first.
+    // Those that wait, the longest waiting first; a word each, so that no number is converted.
     order: ArrayVec<usize, 8>,
     ghost few: { length (items order) ≤ size.count },
     ghost streams: { all_among size.count (items order) ≡ true },

@@ -45,7 +45,7 @@ impl Queue for FirstCome {
         self.order.as_slice().contains(&stream)
     }
 
-    // Alike in each policy, but one form for all would need a ghost member and two laws in each.
+    // The same in each policy; one body for all would need a ghost member and two laws in each.
     fn put(&mut self, stream: usize) -> bool {
         if !self.size.includes(stream) || self.waits(stream) {
             return false;

@@ -1,5 +1,5 @@
 -- What the calls that change a master or a plan do: m and p as they were, m' and p' as they are, r the answer.
-use Rattle.std.specs.Prelude.{◌≡◌, ℕ, ◌<◌, length, Result, MatchResult}
+use Rattle.std.specs.Prelude.{◌≡◌, ℕ, ◌<◌, length, Option, Result, MatchOption, MatchResult}
 use Rattle.refusal.specs.declared.Refusal.{Refusal}
 use Rattle.refusal.specs.declared.Refusal.TheVariants.{TargetTooLarge}
 use Rattle.plan.specs.Net.{TargetInRange, with_high, with_low, with_master, with_target}
@@ -9,6 +9,10 @@ use Rattle.plan.specs.declared.LowStream.{LowStream}
 use Rattle.plan.specs.declared.Master.{Master}
 use Rattle.plan.specs.declared.Plan.{Plan}
 use Rattle.plan.specs.declared.Target.{Target}
+
+-- a value that shows v is made exactly where P holds
+abbrev pub MadeIff : {X V : Type 0} → (X → V) → Type 0 → V → Option X → Type 0
+MadeIff view P v r = MatchOption r (P → ⊥) (λ x. P × (view x ≡ v))
 
 -- One more behind the others in a table with room for n, as a view shows it. `held` counts what is in
 -- the table; in a full one nothing changes, and the item comes back.

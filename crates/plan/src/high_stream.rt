@@ -1,4 +1,5 @@
-ghost use Rattle.std.specs.Prelude.{◌≡◌, MatchOption, Some};
+ghost use Rattle.std.specs.Prelude.{◌≡◌, Some};
+ghost use Rattle.plan.specs.Changes.{MadeIff};
 ghost use Rattle.plan.specs.Net.{StreamInRange};
 ghost use Rattle.plan.specs.Shown.{stream_text};
 ghost use Rattle.plan.specs.Views.{stream_of, told};
@@ -9,7 +10,7 @@ use std::fmt;
 impl HighStream {
     /// A high stream with these times; none where one is out of its range.
     pub fn new(times: Times) -> Option<HighStream>
-        ensures { MatchOption result (StreamInRange (told times) → ⊥) (λ s. StreamInRange (told times) × (stream_of s ≡ told times)) }
+        ensures { MadeIff stream_of (StreamInRange (told times)) (told times) result }
     {
         let in_range = (1..=60_000).contains(&times.cycle)
             && times.deadline > 0
@@ -28,7 +29,7 @@ impl HighStream {
         self.times
     }
 
-    // The four calls below differ in the field alone: a generic one would need a name for each field.
+    // `times` gives all four at once; a call for each is promised too, and one line.
 
     /// The longest cycle, with all retries in it.
     pub fn cycle(&self) -> u16

@@ -1,6 +1,6 @@
 // The plan of a bus: its masters in token order, their high and low streams, and the target
-// rotation time. Times are whole bit times. Every type keeps its own ranges in a ghost field, so
-// no value that breaks them can be made.
+// rotation time. Times are whole bit times. Every type but `Times`, which is what somebody tells,
+// keeps its own ranges in a ghost field, so no value that breaks them can be made.
 #![tactic(auto)]
 
 ghost use Rattle.std.specs.Prelude.{◌≤◌, length};
@@ -65,7 +65,7 @@ pub struct Master {
 }
 
 /// A target rotation time; 0 means not set.
-// No `Option` of a time: a file and a caller say 0 for it, and what is computed reads the number.
+// No `Option` of a time: a file has 0 for it, as a caller has, and what is computed reads the number.
 #[derive(Clone, Copy)]
 pub struct Target {
     time: u32,

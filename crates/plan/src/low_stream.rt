@@ -1,4 +1,5 @@
-ghost use Rattle.std.specs.Prelude.{◌≡◌, MatchOption, Some};
+ghost use Rattle.std.specs.Prelude.{◌≡◌, Some};
+ghost use Rattle.plan.specs.Changes.{MadeIff};
 ghost use Rattle.plan.specs.Net.{CycleInRange};
 ghost use Rattle.plan.specs.Shown.{cycle_text};
 ghost use Rattle.plan.specs.Views.{cycle_of};
@@ -7,11 +8,12 @@ use crate::LowStream;
 use std::fmt;
 
 impl LowStream {
-    // Like `Master::new` over another range: one test, which a function for both would not shorten.
+    // Like `Master::new` over another range. A type for numbers from 1 to a bound would save one test
+    // in each, and put a conversion into every reader of a cycle or a hop.
 
     /// A low stream with this longest cycle; none where that is out of its range.
     pub fn new(cycle: u16) -> Option<LowStream>
-        ensures { MatchOption result (CycleInRange cycle → ⊥) (λ s. CycleInRange cycle × (cycle_of s ≡ cycle)) }
+        ensures { MadeIff cycle_of (CycleInRange cycle) cycle result }
     {
         if !(1..=60_000).contains(&cycle) {
             return None;

@@ -1,5 +1,5 @@
-ghost use Rattle.std.specs.Prelude.{◌≡◌, ◌≤◌, map, length, MatchOption};
-ghost use Rattle.plan.specs.Changes.{HighAdded, LowAdded};
+ghost use Rattle.std.specs.Prelude.{◌≡◌, ◌≤◌, map, length};
+ghost use Rattle.plan.specs.Changes.{HighAdded, LowAdded, MadeIff};
 ghost use Rattle.plan.specs.Net.{HopInRange, bare};
 ghost use Rattle.plan.specs.Views.{stream_of, cycle_of, station_of};
 
@@ -9,7 +9,7 @@ use bounded::ArrayVec;
 impl Master {
     /// A master with this hop and no streams; none where the hop is out of its range.
     pub fn new(hop: u16) -> Option<Master>
-        ensures { MatchOption result (HopInRange hop → ⊥) (λ m. HopInRange hop × (station_of m ≡ bare hop)) }
+        ensures { MadeIff station_of (HopInRange hop) (bare hop) result }
     {
         if !(1..=10_000).contains(&hop) {
             return None;
@@ -43,8 +43,8 @@ impl Master {
         self.hop
     }
 
-    // High and low streams have the same calls, and `ArrayVec` is what is generic of them: a trait for
-    // the two kinds would say no less.
+    // High and low streams have the same calls, one line each over `ArrayVec`; a trait over both kinds
+    // would say no less.
 
     /// The high streams.
     pub fn highs(&self) -> &[HighStream]

@@ -1,7 +1,7 @@
-ghost use Rattle.std.specs.Prelude.{◌≡◌, ◌≤◌, map, length, MatchOption};
+ghost use Rattle.std.specs.Prelude.{◌≡◌, ◌≤◌, map, length};
 ghost use Rattle.bounded.specs.Items.{items};
-ghost use Rattle.plan.specs.Changes.{MasterAdded, Retargeted};
-ghost use Rattle.plan.specs.Net.{fresh, planned, walk};
+ghost use Rattle.plan.specs.Changes.{MadeIff, MasterAdded, Retargeted};
+ghost use Rattle.plan.specs.Net.{TargetInRange, fresh, planned, walk};
 ghost use Rattle.plan.specs.Views.{station_of, net, EveryPlanInRange};
 
 use crate::{MASTERS, Master, Plan, Target};
@@ -16,7 +16,7 @@ impl Plan {
     {
         let first = Master::bare(1);
         let mut masters = ArrayVec::<Master, MASTERS>::new(first);
-        let _ = masters.push(first);
+        masters.push(first).unwrap();
         Plan {
             target: Target { time: 0 },
             masters,
@@ -26,10 +26,10 @@ impl Plan {
     /// A plan of these masters, in token order, at this target; none where the target is out of its
     /// range or there is no master.
     pub fn of(target: u32, masters: ArrayVec<Master, MASTERS>) -> Option<Plan>
-        ensures { MatchOption result ((target ≤ 16777215) × (1 ≤ length (items masters)) → ⊥) (λ p. (target ≤ 16777215) × (1 ≤ length (items masters)) × (net p ≡ planned target (map station_of (items masters)))) }
+        ensures { MadeIff net (TargetInRange target × (1 ≤ length (items masters))) (planned target (map station_of (items masters))) result }
     {
         let target = Target::try_from(target).ok()?;
-        if masters.len() == 0 {
+        if masters.as_slice().is_empty() {
             return None;
         }
         Some(Plan { target, masters })

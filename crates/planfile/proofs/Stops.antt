@@ -1,4 +1,4 @@
--- Where reading is stuck, it is for one reason, and no further record goes-on.
+-- Where reading is stuck, it is for one reason, and no further record goes on.
 use Rattle.std.proofs.Common.{◌≡◌, ℕ, List, [], ◌++◌, length, sym, refl, ap, ◌∙◌, subst, arith}
 use Rattle.refusal.specs.declared.Refusal.{Refusal}
 use Rattle.planfile.specs.declared.records.Record.{Record}

@@ -32,6 +32,7 @@ fn read_records(file: &[u8]) -> Result<Plan, Refusal>
     requires { Versioned file.now }
     ensures { MatchResult result (λ p. file.now ≡ encoded (net p)) (λ e. Refused file.now e) }
 {
+    // Each record tells its own length, so no iterator of the library has them.
     let mut draft = Draft::Start;
     let mut left = &file[1..];
     while !left.is_empty() {

@@ -57,6 +57,8 @@ fn put_all<T: Encode>(out: &mut [u8], items: &[T]) -> usize
     requires { length (flat_map T.Encode.bytes items.now) ≤ length out.old }
     ensures { Put (flat_map T.Encode.bytes items.now) out.old out.new result }
 {
+    // Each item is lent the rest of the buffer behind the one before it. In a chain that index would
+    // depend on what the closure changes.
     let mut at = 0;
     for item in items {
         at += item.put(&mut out[at..]);

@@ -52,11 +52,12 @@ fn contents(rt: &HostRuntime, name: &str) -> io::Result<Vec<u8>> {
     }
 }
 
-// What is told of a plan, behind the name of its file.
+// What is told of a plan, behind the name of its file. (A plan has no text of its own, since its masters
+// and streams are numbered in it.)
 #[derive(Clone, Copy)]
-struct Lines<'a>(&'a Plan);
+struct PlanLines<'a>(&'a Plan);
 
-impl fmt::Display for Lines<'_> {
+impl fmt::Display for PlanLines<'_> {
     fn fmt<W: fmt::Write>(&self, f: &mut fmt::Formatter<W>) -> fmt::Result {
         let plan = self.0;
         let masters = plan.masters();
@@ -104,7 +105,7 @@ fn show_streams<W: fmt::Write, S: fmt::Display>(
 fn report(heap: Global, name: &str, file: &[u8]) -> Result<String, AllocError> {
     match planfile::read(file) {
         Ok(plan) => {
-            let lines = Lines(&plan);
+            let lines = PlanLines(&plan);
             format!(in heap; "{name}: {lines}")
         }
         Err(refusal) => refusal_line(heap, name, refusal),

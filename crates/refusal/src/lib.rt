@@ -18,7 +18,7 @@ pub enum Layer {
 }
 
 /// Where something is wrong.
-// No `Option` of a number: that has no text of its own, so each who shows a place would write `unwrap_or(0)`.
+// No `Option` of a number: that has no text of its own, and a master's stream will be a place too.
 #[derive(Clone, Copy, Debug, PartialEq, Eq)]
 pub enum Place {
     /// No place belongs to it: shown as 0.

@@ -29,9 +29,7 @@ impl Draft {
     {
         match (self, next) {
             (Draft::Start, Record::Ring { target }) => {
-                let Ok(target) = Target::try_from(target) else {
-                    return Err(Refusal::OutOfRange { at });
-                };
+                let target = Target::try_from(target).map_err(|_| Refusal::OutOfRange { at })?;
                 Ok(Draft::Ring { target })
             }
             (Draft::Ring { target }, Record::Master { hop }) => {
