@@ -20,6 +20,7 @@ pub struct Batch {
     size: StreamCount,
     closed: StreamSet,
     gathered: StreamSet,
+    // The same of both groups: a set that knew the size would carry it twice.
     ghost closing: { AllAmong size.count (members closed) },
     ghost gathering: { AllAmong size.count (members gathered) },
     ghost once: { (i : ℕ) → members closed i ≡ true → members gathered i ≡ false },

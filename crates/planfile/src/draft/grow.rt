@@ -1,4 +1,5 @@
-// One record more: each call looks at the order first, then at the room, then at the ranges.
+// One record more: each call looks at the order first, then at the room, then at the ranges. The place
+// goes through all of them, since only the last knows which refusal it is for.
 ghost use Rattle.std.specs.Prelude.{◌≡◌, [], ◌∷◌, ◌++◌, MatchResult};
 ghost use Rattle.bounded.specs.Items.{items};
 ghost use Rattle.plan.specs.Views.{net};
