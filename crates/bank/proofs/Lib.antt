@@ -4,3 +4,4 @@ pub mod Searches
 pub mod Draws
 pub mod Shapings
 pub mod Turns
+pub mod Calls

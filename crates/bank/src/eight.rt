@@ -67,21 +67,18 @@ impl<Q: Queue> Bank for QueueBank<Q> {
             .is_some_and(|queue| queue.waits(stream))
     }
 
-    // A put and a take copy the queue out and put it back, since no clause says what a `&mut` into the
-    // array leaves there.
+    // A put and a take have the test in common; a closure for what follows it would need a longer clause.
     fn put(&mut self, master: usize, stream: usize) -> bool {
-        let Some(mut queue) = self.queues.get(master) else {
+        if !(1..=8).contains(&master) {
             return false;
-        };
-        let done = queue.put(stream);
-        self.queues.set(master, queue);
-        done
+        }
+        self.queues.values[master - 1].put(stream)
     }
 
     fn take(&mut self, master: usize) -> Option<usize> {
-        let mut queue = self.queues.get(master)?;
-        let given = queue.take();
-        self.queues.set(master, queue);
-        given
+        if !(1..=8).contains(&master) {
+            return None;
+        }
+        self.queues.values[master - 1].take()
     }
 }

@@ -26,7 +26,7 @@ pub fn take_until<B: Bank>(bank: &mut B, master: usize, stream: usize) -> usize
     ensures drawn { Drawn B.Bank.meaning B.Bank.takes master stream bank.old result bank.new }
     ensures fair { Fair }
 {
-    // A chain's closure would change the bank, and nothing would be known of it afterwards.
+    // Tried as a chain over `iter::from_fn`: that it ends (`count-requires-clause-finite`) did not close.
     let mut takes = 0;
     while bank.waits(master, stream) {
         let _ = bank.take(master);

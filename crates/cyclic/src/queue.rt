@@ -59,7 +59,7 @@ impl Queue for Cyclic {
 
     // The same in each policy; one body for all would need a ghost member and two laws in each.
     fn put(&mut self, stream: usize) -> bool {
-        if !self.size.includes(stream) || self.waiting.contains(stream) {
+        if !self.size.includes(stream) || self.waits(stream) {
             return false;
         }
         self.waiting.insert(stream);

@@ -4,6 +4,7 @@
 
 ghost use Rattle.std.specs.Prelude.{◌<◌, IfOk};
 
+use planfile::LONGEST;
 use refusal::Refusal;
 use std::alloc::{AllocError, AllocFailed, Global};
 use std::fmt;
@@ -70,8 +71,9 @@ fn main(rt: HostRuntime) -> anyhow::Result<()> {
 fn rewritten(heap: Global, line: &str) -> Result<Vec<u8>, Failure> {
     let file = bytes(heap, line.as_bytes())?;
     let plan = planfile::read(file.as_slice())?;
-    let mut out = vec![in heap; 0; planfile::size(&plan)]?;
-    planfile::write(&plan, out.as_mut_slice())?;
+    let mut out = vec![in heap; 0; LONGEST]?;
+    let len = planfile::write(&plan, out.as_mut_slice())?;
+    out.truncate(len);
     Ok(out)
 }
 

@@ -44,7 +44,7 @@ impl Master {
     }
 
     // High and low streams have the same calls, one line each over `ArrayVec`; a trait over both kinds
-    // would say no less.
+    // would be no shorter.
 
     /// The high streams.
     pub fn highs(&self) -> &[HighStream]

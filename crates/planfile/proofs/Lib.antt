@@ -1,3 +1,4 @@
+pub mod Numbers
 pub mod Exits
 pub mod Growth
 pub mod Framing

@@ -37,6 +37,7 @@ impl StreamSet {
     pub fn above(&self, floor: usize) -> Option<usize>
         ensures { Above (members self.now) floor result }
     {
+        // Up to 9 and not `..=8`, as the library's lemma on `find` has its range.
         (1..9).find(|&stream| stream > floor && self.contains(stream))
     }
 
