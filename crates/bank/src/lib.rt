@@ -16,8 +16,8 @@ pub use waiting::{any_waits, any_waits_at, take_until};
 /// The high requests that wait at all masters. Masters and streams are numbered from 1; any number
 /// may be asked, and what does not exist has size and turns 0 and does not wait.
 // A master and a stream are two numbers, since a size and a take ask for the master alone: a struct of
-// both would be built at each call only to be taken apart in it. That a put says yes or no, and that what
-// does not exist has 0, is the subject's own way of speaking, so neither is a `Result` or an `Option`.
+// both would be built at each call only to be taken apart in it. A put says yes or no, and what does not
+// exist has 0: with a `Result` or an `Option` each caller, who counts with them, would turn them back.
 pub trait Bank {
     /// Sizes, turns and left numbers, by master.
     ghost meaning: { Self → Meaning };

@@ -29,6 +29,7 @@ pub fn take_until<B: Bank>(bank: &mut B, master: usize, stream: usize) -> usize
     // Tried as a chain over `iter::from_fn`: that it ends (`count-requires-clause-finite`) did not close.
     let mut takes = 0;
     while bank.waits(master, stream) {
+        // Which stream that gave, the next `waits` tells.
         let _ = bank.take(master);
         takes += 1;
     }

@@ -8,7 +8,7 @@ mod ops;
 
 /// A list of at most N items. The slots past its length hold items that never show.
 // No heap, so the length stands beside the slots. The library's `ArrayVec` would not do: it is not
-// `Copy`, as a plan is, and asks its items for a `Default`, which a stream and a master have not.
+// `Copy`, as a plan is, and its `new` asks for a `Default`, which a stream and a master have not.
 #[derive(Copy)]
 pub struct ArrayVec<T, const N: usize> {
     slots: [T; N],
