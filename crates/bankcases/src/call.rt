@@ -1,4 +1,5 @@
 ghost use Rattle.std.specs.Prelude.{◌≡◌, Some};
+ghost use Rattle.bankcases.specs.Played.{Played};
 ghost use Rattle.bankcases.specs.Shown.{unreadable_text};
 ghost use Rattle.bankcases.specs.Written.{call_written, number_of_letter, numbers_of};
 
@@ -49,7 +50,10 @@ impl TryFrom<&[u8]> for Call {
 }
 
 impl Call {
-    pub fn play<Q: Queue>(self, bank: &mut QueueBank<Q>) -> Answer {
+    // What the bank answers to the call.
+    pub fn play<Q: Queue>(self, bank: &mut QueueBank<Q>) -> Answer
+        ensures { Played Q.Queue.line Q.Queue.starts Q.Queue.puts Q.Queue.takes bank.old self result bank.new }
+    {
         match self {
             Call::Shape(sizes) => Answer::Shaped(bank.shape(sizes)),
             Call::Size { master } => Answer::Count(bank.size(master)),

@@ -26,7 +26,7 @@ pub enum Record {
 
 impl Record {
     // The record with this kind and body; none where the kind is unknown or the length is not its own.
-    pub fn parse(bytes: &[u8]) -> Option<Record>
+    pub(crate) fn parse(bytes: &[u8]) -> Option<Record>
         ensures { MatchOption result ((x : Record) → contents x ≢ bytes.now) (λ x. contents x ≡ bytes.now) }
     {
         match *bytes {
@@ -50,7 +50,7 @@ impl Record {
     }
 
     // Puts the record in front; the answer is how many bytes it has.
-    pub fn put(self, out: &mut [u8]) -> usize
+    pub(crate) fn put(self, out: &mut [u8]) -> usize
         requires { length (record_bytes self) ≤ length out.old }
         ensures { Put (record_bytes self) out.old out.new result }
     {
