@@ -61,13 +61,12 @@ impl<Q: Queue> Bank for QueueBank<Q> {
             .map_or(0, |queue| queue.turns(stream))
     }
 
+    // These three have the test in common; a closure for what follows it would need a longer clause. They go
+    // to the queue in its place: a copy of it at each of the 64 streams would be most of a search for what waits.
     fn waits(&self, master: usize, stream: usize) -> bool {
-        self.queues
-            .get(master)
-            .is_some_and(|queue| queue.waits(stream))
+        (1..=8).contains(&master) && self.queues.values[master - 1].waits(stream)
     }
 
-    // A put and a take have the test in common; a closure for what follows it would need a longer clause.
     fn put(&mut self, master: usize, stream: usize) -> bool {
         if !(1..=8).contains(&master) {
             return false;

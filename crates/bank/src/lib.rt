@@ -69,15 +69,15 @@ pub trait Queue: Copy {
     fn new(streams: StreamCount) -> Self
         ensures { starts streams.count result };
 
-    /// How many streams it has, as a count.
-    fn streams(&self) -> StreamCount
-        ensures { result.count ≡ (line self.now).size };
-
     /// How many streams it has.
     fn size(&self) -> usize
-        ensures { result ≡ (line self.now).size }
+        ensures { result ≡ (line self.now).size };
+
+    /// How many streams it has, as a count.
+    fn streams(&self) -> StreamCount
+        ensures { result.count ≡ (line self.now).size }
     {
-        self.streams().get()
+        StreamCount::try_from(self.size()).unwrap()
     }
 
     /// The most takes until a stream that is put now is given.
@@ -120,7 +120,7 @@ pub struct QueueBank<Q> {
 
 // One value for each of the eight masters. (The flags of a set of streams are kept likewise; a crate
 // for both would be longer than the two.)
-#[derive(Clone, Copy)]
+#[derive(Copy)]
 struct PerMaster<T> {
     values: [T; 8],
 }

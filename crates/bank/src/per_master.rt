@@ -1,8 +1,32 @@
 ghost use Rattle.std.specs.Prelude.{◌≡◌, ℕ, Some};
-ghost use Rattle.bank.specs.ByMaster.{of_master, Placed};
+ghost use Rattle.bank.specs.ByMaster.{EachMaster, of_master, Placed};
 ghost use Rattle.bank.specs.Meaning.{Master};
 
 use crate::PerMaster;
+use std::alloc::AllocError;
+
+// By hand, since the derived one of an array asks besides how much memory a queue of any policy takes.
+impl<T: Clone> Clone for PerMaster<T> {
+    ghost is_clone = { λ v w. EachMaster (λ x y. T.is_clone x y) v w };
+
+    ghost is_infallible = { λ v. EachMaster (λ x _. T.is_infallible x) v v };
+
+    fn clone(&self) -> Result<Self, AllocError> {
+        let [a, b, c, d, e, f, g, h] = &self.values;
+        Ok(PerMaster {
+            values: [
+                a.clone()?,
+                b.clone()?,
+                c.clone()?,
+                d.clone()?,
+                e.clone()?,
+                f.clone()?,
+                g.clone()?,
+                h.clone()?,
+            ],
+        })
+    }
+}
 
 impl<T: Copy> PerMaster<T> {
     // The same value for each master.

@@ -25,3 +25,5 @@ pub struct Batch {
     ghost gathering: { AllAmong size.count (members gathered) },
     ghost once: { (i : ℕ) → members closed i ≡ true → members gathered i ≡ false },
 }
+
+const _: () = prove!(size_of::<Batch>() == 19);

@@ -34,8 +34,8 @@ impl Queue for Batch {
         }
     }
 
-    fn streams(&self) -> StreamCount {
-        self.size
+    fn size(&self) -> usize {
+        self.size.get()
     }
 
     fn turns(&self, stream: usize) -> usize {

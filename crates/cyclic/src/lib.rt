@@ -19,9 +19,11 @@ pub type CyclicBank = QueueBank<Cyclic>;
 #[derive(Clone, Copy)]
 pub struct Cyclic {
     size: StreamCount,
-    // None before anything was given.
-    last: Option<usize>,
+    // None before anything was given; a byte, since a bank lives on a bus card.
+    last: Option<u8>,
     waiting: StreamSet,
     ghost within: { unwrap_or last 0 ≤ size.count },
     ghost streams: { AllAmong size.count (members waiting) },
 }
+
+const _: () = prove!(size_of::<Cyclic>() == 12);

@@ -15,7 +15,7 @@ impl Cyclic {
         ensures { Nearest (circle_of self.now) result }
     {
         self.last
-            .and_then(|last| self.waiting.above(last))
+            .and_then(|last| self.waiting.above(usize::from(last)))
             .or_else(|| self.waiting.above(0))
     }
 }
@@ -45,8 +45,8 @@ impl Queue for Cyclic {
         }
     }
 
-    fn streams(&self) -> StreamCount {
-        self.size
+    fn size(&self) -> usize {
+        self.size.get()
     }
 
     fn turns(&self, stream: usize) -> usize {
@@ -69,7 +69,7 @@ impl Queue for Cyclic {
     fn take(&mut self) -> Option<usize> {
         let stream = self.next()?;
         self.waiting.remove(stream);
-        self.last = Some(stream);
+        self.last = Some(stream as u8);
         Some(stream)
     }
 }

@@ -17,9 +17,11 @@ pub type FirstComeBank = QueueBank<FirstCome>;
 #[derive(Clone, Copy)]
 pub struct FirstCome {
     size: StreamCount,
-    // Those that wait, the longest waiting first; a word each, so that no number is converted.
-    order: ArrayVec<usize, 8>,
+    // Those that wait, the longest waiting first; a byte each, since a bank lives on a bus card.
+    order: ArrayVec<u8, 8>,
     ghost few: { length (items order) ≤ size.count },
     ghost streams: { all_among size.count (items order) ≡ true },
     ghost single: { once (items order) ≡ true },
 }
+
+const _: () = prove!(size_of::<FirstCome>() == 24);
