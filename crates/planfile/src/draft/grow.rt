@@ -41,6 +41,8 @@ impl Draft {
             (Draft::Masters(growing), Record::Master { hop }) => growing.add_master(hop, at),
             (Draft::Masters(growing), Record::High(times)) => growing.add_high(times, at),
             (Draft::Masters(growing), Record::Low { cycle }) => growing.add_low(cycle, at),
+            // A second ring, and then what stands before the ring or before the first master.
+            (Draft::Masters(_), Record::Ring { .. }) => Err(Refusal::BadRecord { at }),
             _ => Err(Refusal::BadRecord { at }),
         }
     }

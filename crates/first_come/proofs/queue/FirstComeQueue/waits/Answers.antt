@@ -1,4 +1,5 @@
-use Rattle.std.proofs.Common.{◌==◌, ◌∙◌, sym, ap, rules}
+use Rattle.std.proofs.Common.{◌==◌, ◌∙◌, sym, ap, arith, rules}
+use Rattle.std.proofs.lemmas.Bool.Decides.{nat_tests}
 use Rattle.std.proofs.lemmas.List.{take_all}
 use Rattle.std.proofs.lemmas.List.Folds.{list_any_at}
 use Rattle.std.specs.List.{list_any}
@@ -10,7 +11,9 @@ pub returns-then-from-stream : goal.returns-then-from-stream
 returns-then-from-stream c =
     let i = c.args.stream in
     let xs = items c.args.self.now.order in
-    sym (list_any_at (λ x. x == i) xs c.loop-waiting.waiting-index 0 (search (rules, c.loop-waiting-test.true, c.as_slice-waiting-items.ensures.value)) (search (rules, c.if-from-stream.true, c.from.ensures, c.as_slice-waiting-items.ensures.value))) ∙ place_listed i xs
+    let here = list_any_at (λ x. x == i) xs c.loop-waiting.waiting-index 0 (search (rules, c.loop-waiting-test.true, c.as_slice-waiting-items.ensures.value)) (search (rules, c.if-from-stream.true, c.from.ensures, c.as_slice-waiting-items.ensures.value)) in
+    let placed = place_listed i xs in
+    grind (arith, nat_tests)
 
 pub returns : goal.returns
 returns c =

@@ -11,8 +11,8 @@ returns-in_default c = rw c.in_default.is-0 (start_misplaced _ _ c.in_default.no
 pub returns-in_default-2 : goal.returns-in_default-2
 returns-in_default-2 c = rw c.in_default.is-0 (first_misplaced _ _ _ c.in_default.not-Master-1)
 
-pub returns-in_default-3 : goal.returns-in_default-3
-returns-in_default-3 c = rw (c.in_default.is-0, c.in_default.is-1) (ring_misplaced _ _ _ _ _)
+pub returns-in-Masters-Ring : goal.returns-in-Masters-Ring
+returns-in-Masters-Ring c = rw (c.in-Masters-Ring.is-0, c.in-Masters-Ring.is-1) (ring_misplaced _ _ _ _ _)
 
 pub returns-in_err-target-in-Start-Ring : goal.returns-in_err-target-in-Start-Ring
 returns-in_err-target-in-Start-Ring c =
