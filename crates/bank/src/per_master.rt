@@ -1,5 +1,5 @@
 ghost use Rattle.std.specs.Prelude.{◌≡◌, ℕ, Some};
-ghost use Rattle.bank.specs.ByMaster.{EachMaster, of_master, Placed};
+ghost use Rattle.bank.specs.ByMaster.{EachCloned, EachMaster, of_master, Placed};
 ghost use Rattle.bank.specs.Meaning.{Master};
 
 use crate::PerMaster;
@@ -7,11 +7,12 @@ use std::alloc::AllocError;
 
 // By hand, since the derived one of an array asks besides how much memory a queue of any policy takes.
 impl<T: Clone> Clone for PerMaster<T> {
-    ghost is_clone = { λ v w. EachMaster (λ x y. T.is_clone x y) v w };
+    ghost is_clone = { λ v w. EachCloned (λ x y. T.is_clone x y) v w };
 
     ghost is_infallible = { λ v. EachMaster (λ x _. T.is_infallible x) v v };
 
     fn clone(&self) -> Result<Self, AllocError> {
+        prove!(self.values.len() == 8);
         let [a, b, c, d, e, f, g, h] = &self.values;
         Ok(PerMaster {
             values: [

@@ -69,6 +69,7 @@ impl Queue for Cyclic {
     fn take(&mut self) -> Option<usize> {
         let stream = self.next()?;
         self.waiting.remove(stream);
+        // At most 8, it is a byte.
         self.last = Some(stream as u8);
         Some(stream)
     }

@@ -41,7 +41,7 @@ impl Queue for FirstCome {
         self.size.turns_each(stream)
     }
 
-    // By hand: eight at most are looked at here, and the library's `contains` and `any` take twice as long.
+    // By hand: for eight numbers at most, the library's `contains` and `any` cost more than the search itself.
     fn waits(&self, stream: usize) -> bool {
         for waiting in self.order.as_slice() {
             if usize::from(*waiting) == stream {
